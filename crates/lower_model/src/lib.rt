@@ -1,0 +1,14 @@
+//! A lower tree as plain data: what the host holds below an eCryptfs mount.
+#![tactic(auto)]
+
+mod items;
+mod kind;
+mod name;
+mod node;
+mod tree;
+
+pub use items::Items;
+pub use kind::Kind;
+pub use name::{comes_before, is_name};
+pub use node::{LowerNode, OpenDir};
+pub use tree::LowerTree;

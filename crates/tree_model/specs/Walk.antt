@@ -1,0 +1,61 @@
+-- What stands at the numbers of a plain tree, and which node a path leads to.
+use Rattle.std.specs.Prelude.{ℕ, ◌-◌, List, [], ◌∷◌, length, take, Option, Some, None, Result, Ok, Err, Bool, true, false, slice_get}
+use Rattle.lower_model.specs.declared.kind.Kind.{Kind}
+use Rattle.lower_model.specs.declared.kind.Kind.TheVariants as kinds
+use Rattle.tree_model.specs.declared.call.TreeRefusal.{TreeRefusal}
+use Rattle.tree_model.specs.declared.call.TreeRefusal.TheVariants.{NotFound, NotDir}
+use Rattle.tree_model.specs.declared.place.Directory.{Directory}
+use Rattle.tree_model.specs.declared.place.Place.{Place}
+use Rattle.tree_model.specs.declared.place.Place.TheVariants.{Dir, File, Nothing}
+use Rattle.tree_model.specs.Names.{node_of}
+
+-- The tests of a call, one behind another: the first refusal is the answer.
+infixl 10 ◌>>=◌
+abbrev pub ◌>>=◌ : {A B : Type 0} → Result A TreeRefusal → (A → Result B TreeRefusal) → Result B TreeRefusal
+(Ok x) >>= f = f x
+(Err e) >>= f = Err e
+
+abbrev pub unless : Bool → TreeRefusal → Result (Unit {0}) TreeRefusal
+unless true refusal = Err refusal
+unless false refusal = Ok tt
+
+-- the directory at a place
+abbrev pub dir_of : Option Place → Result Directory TreeRefusal
+dir_of (Some (Dir d)) = Ok d
+dir_of (Some File) = Err NotDir
+dir_of (Some Nothing) = Err NotFound
+dir_of None = Err NotFound
+
+abbrev pub found : Option ℕ → Result ℕ TreeRefusal
+found (Some n) = Ok n
+found None = Err NotFound
+
+-- the node of a name, which is looked up only in a directory
+abbrev pub entry_of : Option Place → List ℕ → Result ℕ TreeRefusal
+entry_of place name = dir_of place >>= λ d. found (node_of name d.shown)
+
+-- the node that these names lead to, from a node on
+abbrev pub walk : List Place → ℕ → List (List ℕ) → Result ℕ TreeRefusal
+walk places at [] = Ok at
+walk places at (name ∷ names) = entry_of (slice_get places at) name >>= λ n. walk places n names
+
+-- all names but the last, and the last, where there is one
+abbrev pub front : List (List ℕ) → List (List ℕ)
+front names = take (length names - 1) names
+
+abbrev pub last : List (List ℕ) → Option (List ℕ)
+last names = slice_get names (length names - 1)
+
+abbrev pub kind_of : Option Place → Option Kind
+kind_of (Some (Dir d)) = Some kinds.Dir
+kind_of (Some File) = Some kinds.File
+kind_of (Some Nothing) = None
+kind_of None = None
+
+-- the kind of what a walk reaches, none where it reaches nothing
+abbrev pub kind_reached : List Place → Result ℕ TreeRefusal → Option Kind
+kind_reached places (Ok n) = kind_of (slice_get places n)
+kind_reached places (Err e) = None
+
+abbrev pub kind_at : List Place → List (List ℕ) → Option Kind
+kind_at places path = kind_reached places (walk places 0 path)

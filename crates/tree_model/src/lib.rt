@@ -1,0 +1,14 @@
+//! The plain tree as data: names, paths, the calls on a tree and their replies, and what stands at each node number.
+#![tactic(auto)]
+
+mod call;
+mod name;
+mod names;
+mod path;
+mod place;
+
+pub use call::{Shown, TreeCall, TreeRefusal, TreeReply};
+pub use name::Name;
+pub use names::Names;
+pub use path::Path;
+pub use place::{Directory, ForeignEntry, Place};
