@@ -1,0 +1,55 @@
+-- What a job may hold.
+use Rattle.std.specs.Prelude.{ℕ, ◌≡◌, ◌<◌, ◌≤◌, List, length, IsTrue}
+use Rattle.std.specs.List.{AllByRecursion}
+use Rattle.lower_model.specs.Octets.{AreOctets}
+use Rattle.lower_model.specs.Name.{is_name}
+use Rattle.lower_model.specs.LowerTree.{IsLowerTree}
+use Rattle.lower_model.specs.declared.kind.Kind.TheVariants.{Dir}
+use Rattle.lower_model.specs.declared.node.LowerNode.{LowerNode}
+use Rattle.tree_model.specs.declared.path.Path.{Path}
+use Rattle.session_model.specs.declared.op.Op.{Op}
+use Rattle.session_model.specs.declared.op.Op.TheVariants.{Mkdir, List as ListOp}
+use Rattle.job_model.specs.declared.job.Job.{Job}
+use Rattle.job_model.specs.declared.job.NameCoding.TheVariants.{Plain}
+
+abbrev pub IsPath : Path → Type 0
+IsPath path = AllByRecursion (λ name. IsTrue (is_name name)) path.parts
+
+abbrev pub IsOp : Op → Type 0
+IsOp (Mkdir path) = IsPath path
+IsOp (ListOp path) = IsPath path
+
+pub record IsScript (script : List Op) : Type 0 where
+  pub few : length script ≤ 65536
+  pub ops : AllByRecursion IsOp script
+
+-- this many octets
+pub record HasOctets (count : ℕ) (list : List ℕ) : Type 0 where
+  pub length_is : length list ≡ count
+  pub octets : AreOctets list
+
+pub record IsPassphrase (passphrase : List ℕ) : Type 0 where
+  pub some : 1 ≤ length passphrase
+  pub few : length passphrase ≤ 64
+  pub octets : AreOctets passphrase
+
+pub record IsSchedule (sessions : ℕ) (schedule : List ℕ) : Type 0 where
+  pub few : length schedule ≤ 1048576
+  pub items : AllByRecursion (λ s. s < sessions) schedule
+
+pub record IsJob (job : Job) : Type 0 where
+  pub passphrase : IsPassphrase job.passphrase
+  pub salt : HasOctets 8 job.salt
+  pub namesalt : HasOctets 8 job.namesalt
+  pub random : HasOctets 32 job.random
+  pub image : IsLowerTree job.image
+  pub some_session : 1 ≤ length job.scripts
+  pub few_sessions : length job.scripts ≤ 16
+  pub scripts : AllByRecursion IsScript job.scripts
+  pub schedule : IsSchedule (length job.scripts) job.schedule
+
+-- The jobs that the program serves so far, of all jobs of the format.
+pub record IsServedSoFar (job : Job) : Type 0 where
+  pub plain_names : job.names ≡ Plain
+  pub one_session : length job.scripts ≡ 1
+  pub directories : AllByRecursion (λ (node : LowerNode). node.kind ≡ Dir) job.image

@@ -1,0 +1,64 @@
+-- The one spelling of a job.
+use Rattle.std.specs.Prelude.{ℕ, ◌≡◌, ◌≤◌, List, [], ◌∷◌, ◌++◌, length, map, codes}
+use Rattle.std.specs.List.{flat_map}
+use Rattle.image_model.specs.Spelling.{image}
+use Rattle.text_model.specs.Line.{line, number, hex, path}
+use Rattle.tree_model.specs.declared.path.Path.{Path}
+use Rattle.session_model.specs.declared.op.Op.{Op}
+use Rattle.session_model.specs.declared.op.Op.TheVariants.{Mkdir, List as ListOp}
+use Rattle.job_model.specs.declared.job.Job.{Job}
+use Rattle.job_model.specs.declared.job.MetaPlace.{MetaPlace}
+use Rattle.job_model.specs.declared.job.MetaPlace.TheVariants.{Header, Attribute}
+use Rattle.job_model.specs.declared.job.NameCoding.{NameCoding}
+use Rattle.job_model.specs.declared.job.NameCoding.TheVariants.{Plain, Tag70}
+use Rattle.job_model.specs.Job.{IsJob, IsServedSoFar}
+
+-- the most octets that a job may have
+abbrev pub most_octets : ℕ
+most_octets = 268435456
+
+abbrev pub op_line : Op → List ℕ
+op_line (Mkdir p) = line (codes "mkdir" ∷ path p.parts ∷ [])
+op_line (ListOp p) = line (codes "list" ∷ path p.parts ∷ [])
+
+abbrev pub script_text : List Op → List ℕ
+script_text ops = line (codes "script" ∷ number (length ops) ∷ []) ++ flat_map op_line ops
+
+abbrev pub coding_word : NameCoding → List ℕ
+coding_word Plain = codes "plain"
+coding_word Tag70 = codes "tag70"
+
+abbrev pub place_word : MetaPlace → List ℕ
+place_word Header = codes "header"
+place_word Attribute = codes "attribute"
+
+-- the length of an image, its octets, and a line end
+abbrev pub image_text : List ℕ → List ℕ
+image_text octets = line (codes "image" ∷ number (length octets) ∷ []) ++ octets ++ 10 ∷ []
+
+-- the settings of the mount
+abbrev pub settings_text : Job → List ℕ
+settings_text job =
+    line (codes "ecryptfs-job" ∷ codes "1" ∷ [])
+    ++ line (codes "passphrase" ∷ hex job.passphrase ∷ [])
+    ++ line (codes "salt" ∷ hex job.salt ∷ [])
+    ++ line (codes "namesalt" ∷ hex job.namesalt ∷ [])
+    ++ line (codes "names" ∷ coding_word job.names ∷ [])
+    ++ line (codes "meta" ∷ place_word job.place ∷ [])
+    ++ line (codes "random" ∷ hex job.random ∷ [])
+
+abbrev pub job_text : Job → List ℕ
+job_text job =
+    settings_text job
+    ++ image_text (image job.image)
+    ++ line (codes "sessions" ∷ number (length job.scripts) ∷ [])
+    ++ flat_map script_text job.scripts
+    ++ line (codes "schedule" ∷ map number job.schedule)
+    ++ line (codes "end" ∷ [])
+
+-- These octets are the whole of this job, which the program serves so far.
+pub record IsJobText (job : Job) (octets : List ℕ) : Type 0 where
+  pub lawful : IsJob job
+  pub served_so_far : IsServedSoFar job
+  pub short : length octets ≤ most_octets
+  pub text : octets ≡ job_text job

@@ -1,0 +1,43 @@
+use lower_model::{Items, LowerTree};
+use session_model::Op;
+
+/// How a mount writes new names.
+#[derive(Clone, Copy, Debug, PartialEq, Eq)]
+pub enum NameCoding {
+    /// As they are.
+    Plain,
+    /// Encrypted, as tag 70 packets.
+    Tag70,
+}
+
+/// Where a mount keeps the metadata of new files.
+#[derive(Clone, Copy, Debug, PartialEq, Eq)]
+pub enum MetaPlace {
+    /// In the first octets of the body.
+    Header,
+    /// In the attribute `user.ecryptfs`.
+    Attribute,
+}
+
+/// What a run of the program is given.
+#[derive(Drop)]
+pub struct Job {
+    /// 1 to 64 octets.
+    pub passphrase: Items<u8>,
+    /// The salt of the file key-encryption key.
+    pub salt: [u8; 8],
+    /// The salt of the name key.
+    pub namesalt: [u8; 8],
+    /// How new names are written.
+    pub names: NameCoding,
+    /// Where new files keep their metadata.
+    pub place: MetaPlace,
+    /// The random octets from which the keys of new files are made.
+    pub random: [u8; 32],
+    /// The lower tree.
+    pub image: LowerTree,
+    /// The operations of each session, 1 to 16 sessions of at most 65,536 operations.
+    pub scripts: Items<Items<Op>>,
+    /// Whose turn it is, one session after another, in a run on one thread.
+    pub schedule: Items<u32>,
+}

@@ -1,0 +1,6 @@
+//! A job: what a run of the program is given.
+#![tactic(auto)]
+
+mod job;
+
+pub use job::{Job, MetaPlace, NameCoding};

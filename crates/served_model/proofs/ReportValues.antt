@@ -1,0 +1,75 @@
+-- Worked values of reports.
+use Rattle.std.proofs.Common.{◌≡◌, [], ◌∷◌, ◌++◌, refl}
+use Rattle.std.specs.Prelude.{codes, None}
+use Rattle.std.specs.Fmt.{digits}
+use Rattle.hex.specs.Hex.{encode_with}
+use Rattle.lower_model.specs.declared.kind.Kind.TheVariants as kinds
+use Rattle.lower_model.specs.declared.node.LowerNode.{LowerNode}
+use Rattle.tree_model.specs.declared.call.TreeCall.TheVariants as calls
+use Rattle.tree_model.specs.declared.call.TreeReply.{TreeReply}
+use Rattle.tree_model.specs.declared.call.TreeReply.TheVariants as replies
+use Rattle.tree_model.specs.declared.call.TreeRefusal.TheVariants.{Exists}
+use Rattle.session_model.specs.declared.entry.TreeEntry.{TreeEntry}
+use Rattle.session_model.specs.declared.op.Reply.TheVariants.{Tree, Memory}
+use Rattle.served_model.specs.ReportText.{Report, report_text, entry_line, reply_line}
+
+-- ---- a directory `a` is made below an empty root, and listed
+
+abbrev made_a : TreeEntry
+made_a = record { session = 0; op = 0; call = calls.Mkdir (record { parts = codes "a" ∷ [] }); reply = replies.Done; before = 0; after = 0 }
+
+abbrev names_of_root : TreeReply
+names_of_root = replies.Names (record { kind = kinds.Dir; name = codes "a" } ∷ [])
+
+abbrev listed_root : TreeEntry
+listed_root = record { session = 0; op = 1; call = calls.List (record { parts = [] }); reply = names_of_root; before = 0; after = 0 }
+
+entry_of_mkdir : entry_line made_a ≡ codes "0 0 0 0 mkdir /a = ok\n"
+unfolding digits
+entry_of_mkdir = refl
+
+entry_of_list : entry_line listed_root ≡ codes "0 1 0 0 list / = names d:a\n"
+unfolding digits
+entry_of_list = refl
+
+-- ---- whole reports
+
+abbrev root : LowerNode
+root = record { parent = 0; kind = kinds.Dir; name = []; attribute = None; body = [] }
+
+nothing_run : report_text (record { sessions = [] ∷ []; histories = record { tree = [] }; image = root ∷ [] })
+    ≡ codes "ecryptfs-report 1\nsession 0 0\ntree 0\nimage 12\nECRYIMG1" ++ 0 ∷ 0 ∷ 0 ∷ 0 ∷ [] ++ codes "\nend\n"
+unfolding digits
+nothing_run = refl
+
+abbrev directory_a : LowerNode
+directory_a = record { parent = 0; kind = kinds.Dir; name = codes "a"; attribute = None; body = [] }
+
+abbrev two_calls : Report
+two_calls = record {
+  sessions = (Tree replies.Done ∷ Tree names_of_root ∷ []) ∷ [];
+  histories = record { tree = made_a ∷ listed_root ∷ [] };
+  image = root ∷ directory_a ∷ [];
+}
+
+made_and_listed : report_text two_calls
+    ≡ codes "ecryptfs-report 1\nsession 0 2\nok\nnames d:a\ntree 2\n0 0 0 0 mkdir /a = ok\n0 1 0 0 list / = names d:a\nimage 17\nECRYIMG1"
+    ++ 0 ∷ 0 ∷ 0 ∷ 1 ∷ 0 ∷ 1 ∷ 0 ∷ 1 ∷ 97 ∷ [] ++ codes "\nend\n"
+unfolding digits
+made_and_listed = refl
+
+-- ---- other replies
+
+refused : reply_line (Tree (replies.Refused Exists)) ≡ codes "err exists\n"
+refused = refl
+
+no_memory : reply_line Memory ≡ codes "err memory\n"
+no_memory = refl
+
+empty_directory : reply_line (Tree (replies.Names [])) ≡ codes "names\n"
+empty_directory = refl
+
+-- a file beside a directory whose name has a space
+two_names : reply_line (Tree (replies.Names (record { kind = kinds.Dir; name = codes "b c" } ∷ record { kind = kinds.File; name = codes "f" } ∷ []))) ≡ codes "names d:b%20c f:f\n"
+unfolding encode_with
+two_names = refl

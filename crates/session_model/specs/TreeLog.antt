@@ -1,0 +1,41 @@
+-- Which lists of turns a plain tree could have had.
+use Rattle.std.specs.Prelude.{ℕ, ◌≡◌, ◌<◌, ◌≤◌, List, [], ◌∷◌}
+use Rattle.tree_model.specs.declared.call.TreeCall.{TreeCall}
+use Rattle.tree_model.specs.declared.call.TreeReply.{TreeReply}
+use Rattle.tree_model.specs.declared.call.TreeReply.TheVariants as replies
+use Rattle.tree_model.specs.PlainTree.{PlainTree, step}
+use Rattle.session_model.specs.declared.entry.TreeEntry.{TreeEntry}
+
+-- a reply in whose place a fault of the lower names may stand: any but a refusal
+abbrev pub IsNoRefusal : TreeReply → Type 0
+IsNoRefusal replies.Done = Unit {0}
+IsNoRefusal (replies.Names names) = Unit {0}
+IsNoRefusal (replies.Refused refusal) = ⊥
+IsNoRefusal replies.LowerFault = ⊥
+IsNoRefusal replies.Memory = ⊥
+
+-- The call may answer this, and the tree goes on from old to new: by the step, or unchanged for want of memory or for a fault that the count shows.
+abbrev pub Turns : TreeReply → TreeCall → ℕ → ℕ → PlainTree → PlainTree → Type 0
+Turns replies.Memory call before after old new = new ≡ old
+Turns replies.LowerFault call before after old new = (before < after) × IsNoRefusal (step old call).reply × (new ≡ old)
+Turns reply call before after old new = step old call ≡ record { reply = reply; tree = new }
+
+pub record IsTurn (old : PlainTree) (e : TreeEntry) (new : PlainTree) : Type 0 where
+  pub later : e.before ≤ e.after
+  pub turns : Turns e.reply e.call e.before e.after old new
+
+-- from old, these turns one behind another lead to new
+abbrev pub IsLegal : PlainTree → List TreeEntry → PlainTree → Type 0
+IsLegal old [] new = new ≡ old
+IsLegal old (e ∷ log) new = (mid : PlainTree) × IsTurn old e mid × IsLegal mid log new
+
+-- each count of faults begins where the one before ended
+abbrev pub JoinsUp : List TreeEntry → Type 0
+JoinsUp [] = Unit {0}
+JoinsUp (e ∷ []) = Unit {0}
+JoinsUp (e ∷ f ∷ log) = (f.before ≡ e.after) × JoinsUp (f ∷ log)
+
+-- The log of a plain tree.
+pub record IsTreeLog (old : PlainTree) (log : List TreeEntry) (new : PlainTree) : Type 0 where
+  pub legal : IsLegal old log new
+  pub counts : JoinsUp log

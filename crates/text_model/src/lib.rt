@@ -1,0 +1,2 @@
+//! The spelling of lines, numbers, octets, names and paths: the vocabulary of jobs and reports.
+#![tactic(auto)]
