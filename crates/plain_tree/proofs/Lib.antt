@@ -1,0 +1,4 @@
+pub mod Places
+pub mod IsTreeLemmas
+pub mod Walks
+pub mod Steps
