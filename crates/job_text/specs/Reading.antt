@@ -1,0 +1,241 @@
+-- Reading a job line by line, up to the first line that isn't in the grammar at its place.
+use Rattle.std.specs.Prelude.{ℕ, zero, suc, ◌≡◌, ◌-◌, List, [], ◌∷◌, length, take, drop, codes, Option, Some, None, Result, Ok, Err, Bool, true, false, nat_lt, nat_le, ◌==◌, ◌&&◌, if◌then◌else◌}
+use Rattle.std.specs.List.{slice_split, list_all}
+use Rattle.std.specs.Option.{option_map}
+use Rattle.std.specs.Str.{bytes_eq}
+use Rattle.lower_model.specs.declared.kind.Kind.{Kind}
+use Rattle.lower_model.specs.declared.kind.Kind.TheVariants.{Dir, File}
+use Rattle.lower_model.specs.declared.node.LowerNode.{LowerNode}
+use Rattle.image_model.specs.declared.fault.ImageFault.{ImageFault}
+use Rattle.image_model.specs.Reading.{reading}
+use Rattle.session_model.specs.declared.op.Op.{Op}
+use Rattle.session_model.specs.declared.op.Op.TheVariants.{Mkdir, List as ListOp}
+use Rattle.job_model.specs.declared.job.Job.{Job}
+use Rattle.job_model.specs.declared.job.NameCoding.{NameCoding}
+use Rattle.job_model.specs.declared.job.NameCoding.TheVariants.{Plain, Tag70}
+use Rattle.job_model.specs.declared.job.MetaPlace.{MetaPlace}
+use Rattle.job_model.specs.declared.job.MetaPlace.TheVariants.{Header, Attribute}
+use Rattle.line_reader.specs.Lines.{line_in}
+use Rattle.line_reader.specs.Fields.{number_in, hex_in, sized_hex_in, path_in, each_in}
+use Rattle.job_text.specs.declared.fault.LineError.{LineError}
+use Rattle.job_text.specs.declared.fault.LineError.TheVariants as errors
+use Rattle.job_text.specs.declared.settings.Keys.{Keys}
+use Rattle.job_text.specs.declared.settings.Making.{Making}
+
+infixl 10 ◌>>=◌
+abbrev pub ◌>>=◌ : {A B : Type 0} → Result A ℕ → (A → Result B ℕ) → Result B ℕ
+(Ok x) >>= f = f x
+(Err left) >>= f = Err left
+
+-- What a function returned, seen by view, is what the reading gives, unless memory ran out.
+abbrev pub Fails : {Y : Type 0} → LineError → Result Y ℕ → Type 0
+Fails (errors.Wrong left) read = read ≡ Err left
+Fails errors.Memory read = Unit {0}
+
+abbrev pub Gives : {X Y : Type 0} → (X → Y) → Result X LineError → Result Y ℕ → Type 0
+Gives view (Ok x) read = read ≡ Ok (view x)
+Gives view (Err e) read = Fails e read
+
+-- A part of a job is a value and the octets behind it. Of a wrong line, it is told how many octets are left from its first one on.
+abbrev pub Part : Type 0 → Type 0
+Part A = Result (A × List ℕ) ℕ
+
+abbrev pub or_wrong : {A : Type 0} → Option A → List ℕ → Result A ℕ
+or_wrong (Some value) octets = Ok value
+or_wrong None octets = Err (length octets)
+
+-- what stands behind a word
+abbrev pub behind : List ℕ → List ℕ → Option (List ℕ)
+behind word text = if bytes_eq (take (length word) text) word then Some (drop (length word) text) else None
+
+-- what stands behind a word in the first line
+unfoldable pub word_at : List ℕ → List ℕ → Part (List ℕ)
+word_at word octets = do
+  line ← or_wrong (line_in octets) octets
+  text ← or_wrong (behind word line.0) octets
+  Ok (text, line.1)
+
+-- a line of a word and a field
+abbrev pub field_at : {A : Type 0} → List ℕ → (List ℕ → Option A) → List ℕ → Part A
+field_at word read octets = do
+  text ← word_at word octets
+  value ← or_wrong (read text.0) octets
+  Ok (value, text.1)
+
+-- a first line that is this word, and so the octets behind it
+unfoldable pub whole_at : List ℕ → List ℕ → Result (List ℕ) ℕ
+whole_at word octets = do
+  text ← word_at word octets
+  if length text.0 == 0 then Ok text.1 else Err (length octets)
+
+-- so many lines, or texts of several lines, one after another
+unfoldable pub times_at : {A : Type 0} → (List ℕ → Part A) → ℕ → List ℕ → Part (List A)
+times_at read zero octets = Ok ([], octets)
+times_at read (suc count) octets = do
+  first ← read octets
+  others ← times_at read count first.1
+  Ok (first.0 ∷ others.0, others.1)
+
+-- ---- the settings
+
+abbrev pub passphrase_of : List ℕ → Option (List ℕ)
+passphrase_of octets = if nat_le 1 (length octets) && nat_le (length octets) 64 then Some octets else None
+
+abbrev pub passphrase_if : Option (List ℕ) → Option (List ℕ)
+passphrase_if None = None
+passphrase_if (Some octets) = passphrase_of octets
+
+-- 1 to 64 octets
+abbrev pub passphrase_in : List ℕ → Option (List ℕ)
+passphrase_in text = passphrase_if (hex_in text)
+
+abbrev pub coding_in : List ℕ → Option NameCoding
+coding_in text = if bytes_eq text (codes "plain") then Some Plain else if bytes_eq text (codes "tag70") then Some Tag70 else None
+
+abbrev pub place_in : List ℕ → Option MetaPlace
+place_in text = if bytes_eq text (codes "header") then Some Header else if bytes_eq text (codes "attribute") then Some Attribute else None
+
+abbrev pub keys_of : List ℕ → List ℕ → List ℕ → Keys
+keys_of passphrase salt namesalt = record { passphrase = passphrase; salt = salt; namesalt = namesalt }
+
+-- the passphrase and the two salts
+unfoldable pub keys_at : List ℕ → Part Keys
+keys_at octets = do
+  passphrase ← field_at (codes "passphrase ") passphrase_in octets
+  salt ← field_at (codes "salt ") (sized_hex_in 8) passphrase.1
+  namesalt ← field_at (codes "namesalt ") (sized_hex_in 8) salt.1
+  Ok (keys_of passphrase.0 salt.0 namesalt.0, namesalt.1)
+
+-- what new names and files are made of
+unfoldable pub making_at : List ℕ → Part Making
+making_at octets = do
+  names ← field_at (codes "names ") coding_in octets
+  place ← field_at (codes "meta ") place_in names.1
+  random ← field_at (codes "random ") (sized_hex_in 32) place.1
+  Ok (record { names = names.0; place = place.0; random = random.0 }, random.1)
+
+-- ---- the image
+
+-- the octets behind a line end
+abbrev pub behind_end : List ℕ → Result (List ℕ) ℕ
+behind_end [] = Err 0
+behind_end (c ∷ rest) = if c == 10 then Ok rest else Err (length (c ∷ rest))
+
+-- A fault of the image has its place in it.
+abbrev pub image_or_fault : {A : Type 0} → Result A ImageFault → List ℕ → Result A ℕ
+image_or_fault (Ok nodes) octets = Ok nodes
+image_or_fault (Err fault) octets = Err (length octets - fault.place)
+
+-- the image of this length
+abbrev pub sized_image_at : ℕ → List ℕ → Part (List LowerNode)
+sized_image_at count octets =
+    if nat_lt (length octets) count then Err (length octets) else (image_or_fault (reading (take count octets)) octets >>= λ nodes. behind_end (drop count octets) >>= λ rest. Ok (nodes, rest))
+
+unfoldable pub image_at : List ℕ → Part (List LowerNode)
+image_at octets = do
+  count ← field_at (codes "image ") number_in octets
+  sized_image_at count.0 count.1
+
+-- ---- the scripts
+
+abbrev pub number_if : ℕ → ℕ → Option ℕ → Option ℕ
+number_if least most None = None
+number_if least most (Some n) = if nat_le least n && nat_le n most then Some n else None
+
+-- a number from least to most
+abbrev pub count_in : ℕ → ℕ → List ℕ → Option ℕ
+count_in least most text = number_if least most (number_in text)
+
+abbrev pub op_behind : Option (List ℕ) → Option (List ℕ) → Option Op
+op_behind (Some path) other = option_map Mkdir (path_in path)
+op_behind None (Some path) = option_map ListOp (path_in path)
+op_behind None None = None
+
+abbrev pub op_in : List ℕ → Option Op
+op_in text = op_behind (behind (codes "mkdir ") text) (behind (codes "list ") text)
+
+unfoldable pub op_at : List ℕ → Part Op
+op_at octets = do
+  line ← or_wrong (line_in octets) octets
+  op ← or_wrong (op_in line.0) octets
+  Ok (op, line.1)
+
+unfoldable pub script_at : List ℕ → Part (List Op)
+script_at octets = do
+  count ← field_at (codes "script ") (count_in 0 65536) octets
+  times_at op_at count.0 count.1
+
+-- 1 to 16 sessions
+unfoldable pub scripts_at : List ℕ → Part (List (List Op))
+scripts_at octets = do
+  count ← field_at (codes "sessions ") (count_in 1 16) octets
+  times_at script_at count.0 count.1
+
+-- ---- the schedule
+
+abbrev pub item_if : ℕ → Option ℕ → Option ℕ
+item_if sessions None = None
+item_if sessions (Some n) = if nat_lt n sessions then Some n else None
+
+abbrev pub item_in : ℕ → List ℕ → Option ℕ
+item_in sessions text = item_if sessions (number_in text)
+
+abbrev pub items_if : Option (List ℕ) → Option (List ℕ)
+items_if None = None
+items_if (Some items) = if nat_le (length items) 1048576 then Some items else None
+
+-- a blank before each item
+abbrev pub items_in : ℕ → List ℕ → Option (List ℕ)
+items_in sessions [] = Some []
+items_in sessions (c ∷ text) = if c == 32 then items_if (each_in (item_in sessions) (slice_split (λ c. c == 32) text)) else None
+
+abbrev pub schedule_at : ℕ → List ℕ → Part (List ℕ)
+schedule_at sessions octets = field_at (codes "schedule") (items_in sessions) octets
+
+-- ---- the job
+
+unfoldable pub end_at : List ℕ → Result (Unit {0}) ℕ
+end_at octets = do
+  rest ← whole_at (codes "end") octets
+  if length rest == 0 then Ok tt else Err (length rest)
+
+abbrev pub job_of : Keys → Making → List LowerNode → List (List Op) → List ℕ → Job
+job_of keys making image scripts schedule =
+    record { passphrase = keys.passphrase; salt = keys.salt; namesalt = keys.namesalt; names = making.names; place = making.place; random = making.random; image = image; scripts = scripts; schedule = schedule }
+
+-- what stands behind the settings
+abbrev pub Work : Type 0
+Work = List LowerNode × List (List Op) × List ℕ
+
+-- the image, the scripts, the schedule, and nothing behind the end
+unfoldable pub work_at : List ℕ → Result Work ℕ
+work_at octets = do
+  image ← image_at octets
+  scripts ← scripts_at image.1
+  schedule ← schedule_at (length scripts.0) scripts.1
+  nothing ← end_at schedule.1
+  Ok (image.0, scripts.0, schedule.0)
+
+unfoldable pub job_at : List ℕ → Result Job ℕ
+job_at octets = do
+  head ← whole_at (codes "ecryptfs-job 1") octets
+  keys ← keys_at head
+  making ← making_at keys.1
+  work ← work_at making.1
+  Ok (job_of keys.0 making.0 work.0 work.1 work.2)
+
+-- ---- what is served so far
+
+abbrev pub is_plain : NameCoding → Bool
+is_plain Plain = true
+is_plain Tag70 = false
+
+abbrev pub is_dir : Kind → Bool
+is_dir Dir = true
+is_dir File = false
+
+abbrev pub is_directory : LowerNode → Bool
+is_directory node = is_dir node.kind
+
+abbrev pub is_served_so_far : Job → Bool
+is_served_so_far job = is_plain job.names && length job.scripts == 1 && list_all is_directory job.image

@@ -1,0 +1,147 @@
+-- Octets are read as they are spelled in hexadecimal.
+use Rattle.std.proofs.Common.{◌≡◌, ℕ, zero, suc, ◌+◌, ◌*◌, ◌/◌, ◌%◌, ◌<◌, Bool, true, cond, ltb, List, [], ◌∷◌, Option, Some, None, Result, Ok, Err, refl, sym, ap, ◌∙◌, arith, inl, inr}
+use Rattle.std.specs.Prelude.{◌&&◌, ◌==◌, slice_index}
+use Rattle.std.specs.List.{list_all}
+use Rattle.std.specs.Result.{result_ok}
+use Rattle.std.proofs.lemmas.Bool.{and_parts, eqb-true, cases_lt}
+use Rattle.std.proofs.lemmas.Bool.Decides.{nat_tests}
+use Rattle.hex.specs.declared.error.FromHexError.{FromHexError}
+use Rattle.hex.specs.Hex.{decode_of, decode_pairs, decode_sized, digit_or_error, hex_digit_value, encode_lower, encode_with, lower_digits, pair_value, value_at, ◌>>=◌}
+use Rattle.hex.proofs.HexLemmas.{decode_of-even, decode_of-ok, decode_of-encode_lower, decode_sized-ok, decode_sized-twice, decode_sized-encode_lower}
+use Rattle.lower_model.specs.Octets.{AreOctets}
+use Rattle.text_model.specs.Line.{hex}
+use Rattle.line_reader.specs.Fields.{AreSized, is_hex_digit, hex_in, sized_hex_in}
+use Rattle.line_reader.proofs.Readers.{IsReader, guard_some}
+use Rattle.line_reader.proofs.Words.{is_word, octet_at, AreOctets-from_each}
+
+-- ---- digits
+
+-- the digit of a value
+abbrev glyph : ℕ → ℕ
+glyph n = cond (ltb n 10) (48 + n) (87 + n)
+
+abbrev is_table : ℕ → Bool
+is_table zero = true
+is_table (suc n) = slice_index lower_digits n == glyph n && is_table n
+
+table_at : (n k : ℕ) → is_table n ≡ true → k < n → slice_index lower_digits k ≡ glyph k
+table_at zero k e lt = absurd (omega arith)
+table_at (suc n) k e lt =
+    let parts = and_parts (slice_index lower_digits n == glyph n) (is_table n) e in
+    elim (cases_lt k n) [
+      | inl below ↦ table_at n k parts.1 below
+      | inr top ↦ let same : k ≡ n = omega arith in rw same (eqb-true _ _ parts.0)
+    ]
+
+digit_is : (k : ℕ) → k < 16 → slice_index lower_digits k ≡ glyph k
+digit_is k lt = table_at 16 k refl lt
+
+-- a lower-case digit is the one of its value
+record IsDigitOf (c n : ℕ) : Type 0 where
+  small : n < 16
+  is : glyph n ≡ c
+
+small_value : (c n : ℕ) → is_hex_digit c ≡ true → hex_digit_value c ≡ Some n → n < 16
+small_value c n e v = grind (arith, nat_tests)
+
+glyph_value : (c n : ℕ) → is_hex_digit c ≡ true → hex_digit_value c ≡ Some n → glyph n ≡ c
+glyph_value c n e v = grind (arith, nat_tests)
+
+digit_of : (c n : ℕ) → is_hex_digit c ≡ true → hex_digit_value c ≡ Some n → IsDigitOf c n
+digit_of c n e v = record { small = small_value c n e v; is = glyph_value c n e v }
+
+value_ok : (c i n : ℕ) (o : Option ℕ) → hex_digit_value c ≡ o → digit_or_error c i o ≡ Ok n → hex_digit_value c ≡ Some n
+value_ok c i n (Some v) is e = let same : v ≡ n = cc in is ∙ ap Some same
+value_ok c i n None is e = absurd cc
+
+digit_read : (c i n : ℕ) → is_hex_digit c ≡ true → value_at c i ≡ Ok n → IsDigitOf c n
+digit_read c i n e v = digit_of c n e (value_ok c i n (hex_digit_value c) refl v)
+
+bind_ok : {A B : Type 0} (r : Result A FromHexError) (f : A → Result B FromHexError) (y : B) → (r >>= f) ≡ Ok y → (x : A) × (r ≡ Ok x) × (f x ≡ Ok y)
+bind_ok (Ok x) f y e = (x, refl, e)
+bind_ok (Err d) f y e = absurd cc
+
+-- two digits of an octet
+pair_is : (a b i octet : ℕ) → is_hex_digit a ≡ true → is_hex_digit b ≡ true → pair_value a b i ≡ Ok octet → (slice_index lower_digits (octet / 16) ≡ a) × (slice_index lower_digits (octet % 16) ≡ b)
+pair_is a b i octet ea eb e =
+    let p = bind_ok (value_at a i) _ octet e in
+    let q = bind_ok (value_at b (i + 1)) _ octet p.2 in
+    let high = digit_read a i p.0 ea p.1 in
+    let low = digit_read b (i + 1) q.0 eb q.1 in
+    let whole : p.0 * 16 + q.0 ≡ octet = cc in
+    let h : octet / 16 ≡ p.0 = omega (arith, high.small, low.small) in
+    let l : octet % 16 ≡ q.0 = omega (arith, high.small, low.small) in
+    (rw h (digit_is p.0 high.small ∙ high.is), rw l (digit_is q.0 low.small ∙ low.is))
+
+pairs_are : (i : ℕ) (text octets : List ℕ) → list_all is_hex_digit text ≡ true → decode_pairs i text ≡ Ok octets → text ≡ encode_lower octets
+unfolding decode_pairs encode_with
+pairs_are i [] octets e h = let none : [] ≡ octets = cc in rw (← none) refl
+pairs_are i (a ∷ []) octets e h = absurd cc
+pairs_are i (a ∷ b ∷ rest) octets e h =
+    let first = and_parts (is_hex_digit a) (list_all is_hex_digit (b ∷ rest)) e in
+    let second = and_parts (is_hex_digit b) (list_all is_hex_digit rest) first.1 in
+    let p = bind_ok (pair_value a b i) _ octets h in
+    let q = bind_ok (decode_pairs (i + 2) rest) _ octets p.2 in
+    let made : p.0 ∷ q.0 ≡ octets = cc in
+    let pair = pair_is a b i p.0 first.0 second.0 p.1 in
+    let others = pairs_are (i + 2) rest q.0 second.1 q.1 in
+    rw (← made, pair.0, pair.1, ← others) refl
+
+is_ok : (r : Result (List ℕ) FromHexError) (octets : List ℕ) → result_ok r ≡ Some octets → r ≡ Ok octets
+is_ok (Ok x) octets e = let same : x ≡ octets = cc in ap Ok same
+is_ok (Err d) octets e = absurd cc
+
+decoded : (text octets : List ℕ) → list_all is_hex_digit text ≡ true → decode_of text ≡ Ok octets → (text ≡ hex octets) × AreOctets octets
+decoded text octets e h =
+    let ok = decode_of-ok text octets h in
+    (pairs_are 0 text octets e (sym (decode_of-even text ok.0) ∙ h), AreOctets-from_each octets ok.3)
+
+-- the digits of octets are lower-case ones, and words
+glyph_hex : (n : ℕ) → n < 16 → is_hex_digit (glyph n) ≡ true
+glyph_hex n lt = grind (arith, nat_tests)
+
+glyph_word : (n : ℕ) → n < 16 → is_word (glyph n) ≡ true
+glyph_word n lt = grind (arith, nat_tests)
+
+glyph_digit : (n : ℕ) → n < 16 → (is_hex_digit (glyph n) ≡ true) × (is_word (glyph n) ≡ true)
+glyph_digit n lt = (glyph_hex n lt, glyph_word n lt)
+
+pub hex_digits : (octets : List ℕ) → AreOctets octets → (list_all is_hex_digit (hex octets) ≡ true) × (list_all is_word (hex octets) ≡ true)
+unfolding encode_with
+hex_digits [] fits = (refl, refl)
+hex_digits (x ∷ xs) fits =
+    let high : x / 16 < 16 = omega (arith, fits.0) in
+    let low : x % 16 < 16 = omega arith in
+    let h = glyph_digit (x / 16) high in
+    let l = glyph_digit (x % 16) low in
+    let others = hex_digits xs fits.1 in
+    (rw (digit_is (x / 16) high, digit_is (x % 16) low, h.0, l.0) others.0, rw (digit_is (x / 16) high, digit_is (x % 16) low, h.1, l.1) others.1)
+
+pub hex_reader : IsReader hex_in hex AreOctets
+unfolding hex_in
+hex_reader = record { found = found; again = again }
+  where
+    found : (text octets : List ℕ) → hex_in text ≡ Some octets → (text ≡ hex octets) × AreOctets octets
+    found text octets e =
+        let g = guard_some (list_all is_hex_digit text) (result_ok (decode_of text)) octets e in
+        decoded text octets g.0 (is_ok (decode_of text) octets g.1)
+
+    again : (octets : List ℕ) → AreOctets octets → hex_in (hex octets) ≡ Some octets
+    again octets fits = rw ((hex_digits octets fits).0, decode_of-encode_lower octets (λ i. octet_at octets i fits)) refl
+
+pub sized_hex_reader : (count : ℕ) → IsReader (sized_hex_in count) hex (AreSized count)
+unfolding sized_hex_in
+sized_hex_reader count = record { found = found; again = again }
+  where
+    found : (text octets : List ℕ) → sized_hex_in count text ≡ Some octets → (text ≡ hex octets) × AreSized count octets
+    found text octets e =
+        let g = guard_some (list_all is_hex_digit text) (result_ok (decode_sized text count)) octets e in
+        let ok = is_ok (decode_sized text count) octets g.1 in
+        let len = decode_sized-ok text count octets ok in
+        let all = sym (decode_sized-twice text count len) ∙ ok in
+        let twice = (decode_of-ok text octets all).2 in
+        let d = decoded text octets g.0 all in
+        (d.0, (omega (arith, len, twice), d.1))
+
+    again : (octets : List ℕ) → AreSized count octets → sized_hex_in count (hex octets) ≡ Some octets
+    again octets fits = rw ((hex_digits octets fits.1).0, decode_sized-encode_lower octets count fits.0 (λ i. octet_at octets i fits.1)) refl

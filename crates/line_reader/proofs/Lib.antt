@@ -1,0 +1,8 @@
+pub mod Readers
+pub mod Words
+pub mod NumberReader
+pub mod HexReader
+pub mod Cutting
+pub mod NameReader
+pub mod Loops
+pub mod PathReader

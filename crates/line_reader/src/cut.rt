@@ -1,0 +1,28 @@
+ghost use Rattle.std.specs.Prelude.{◌≡◌, ◌+◌, ◌==◌, length, IfSome};
+ghost use Rattle.std.specs.List.{position};
+ghost use Rattle.std.specs.Option.{option_map};
+ghost use Rattle.line_reader.specs.Lines.{cut_in, line_in};
+
+fn place_of(octet: u8, text: &[u8]) -> Option<usize>
+    ensures value { result ≡ position (λ c. c == octet) text.now }
+{
+    text.iter().position(|c| *c == octet)
+}
+
+/// What stands before the first such octet of a text, and what stands behind it.
+#[tactic(auto, unfolding(crate::specs::Lines::cut_in))]
+pub fn cut_at(octet: u8, text: &[u8]) -> Option<(&[u8], &[u8])>
+    ensures cut { option_map (λ x. (x.0.now, x.1.now)) result ≡ cut_in octet text.now }
+    ensures shorter { IfSome result (λ x. length x.0.now + length x.1.now + 1 ≡ length text.now) }
+{
+    let end = place_of(octet, text)?;
+    Some((&text[..end], &text[end + 1..]))
+}
+
+/// The first line of a text, without its line end, and what stands behind it.
+pub fn first_line(text: &[u8]) -> Option<(&[u8], &[u8])>
+    ensures line { option_map (λ x. (x.0.now, x.1.now)) result ≡ line_in text.now }
+    ensures shorter { IfSome result (λ x. length x.0.now + length x.1.now + 1 ≡ length text.now) }
+{
+    cut_at(b'\n', text)
+}

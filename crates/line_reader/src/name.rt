@@ -1,0 +1,81 @@
+ghost use Rattle.std.specs.Prelude.{◌≡◌, ◌<◌, length, IfOk, IfSome};
+ghost use Rattle.std.specs.Option.{option_map};
+ghost use Rattle.text_model.specs.Line.{name, is_plain as plain_test};
+ghost use Rattle.line_reader.specs.Fields.{Reads, IsName, escaped_in, octet_in, octets_in, name_in};
+
+use crate::read_hex_array;
+use std::alloc::{AllocError, Global};
+use tree_model::Name;
+
+fn is_plain(c: u8) -> bool
+    ensures { result ≡ plain_test c }
+{
+    b'!' <= c && c <= b'~' && !(c == b'%') && !(c == b'/')
+}
+
+fn escaped_octet(text: &[u8]) -> Option<(u8, &[u8])>
+    ensures octet { option_map (λ x. (x.0, x.1.now)) result ≡ escaped_in text.now }
+    ensures shorter { IfSome result (λ x. length x.1.now < length text.now) }
+{
+    if text.len() < 2 {
+        return None;
+    }
+    let (digits, rest) = text.split_at(2);
+    let [octet] = read_hex_array::<1>(digits)?;
+    if is_plain(octet) {
+        return None;
+    }
+    Some((octet, rest))
+}
+
+/// The octet whose spelling a text begins with, and what stands behind it.
+#[tactic(auto, unfolding(crate::specs::Fields::octet_in))]
+fn first_octet(text: &[u8]) -> Option<(u8, &[u8])>
+    ensures octet { option_map (λ x. (x.0, x.1.now)) result ≡ octet_in text.now }
+    ensures shorter { IfSome result (λ x. length x.1.now < length text.now) }
+{
+    match text {
+        [] => None,
+        [first, rest @ ..] => {
+            if is_plain(*first) {
+                return Some((*first, rest));
+            }
+            if *first == b'%' {
+                return escaped_octet(rest);
+            }
+            None
+        }
+    }
+}
+
+fn octets_of(alloc: Global, text: &[u8]) -> Result<Option<Vec<u8>>, AllocError>
+    ensures { IfOk result (λ found. option_map (λ v. v.items) found ≡ octets_in text.now) }
+{
+    let mut octets = Vec::new(alloc);
+    let mut rest = text;
+    while !rest.is_empty() {
+        let Some((octet, behind)) = first_octet(rest) else {
+            return Ok(None);
+        };
+        octets.push(octet)?;
+        rest = behind;
+    }
+    Ok(Some(octets))
+}
+
+fn name_of(alloc: Global, text: &[u8]) -> Result<Option<Name>, AllocError>
+    ensures { IfOk result (λ found. found ≡ name_in text.now) }
+{
+    match octets_of(alloc, text)? {
+        Some(octets) => Ok(Name::new(octets).ok()),
+        None => Ok(None),
+    }
+}
+
+/// The name that a text spells.
+pub fn read_name(alloc: Global, text: &[u8]) -> Result<Option<Name>, AllocError>
+    ensures reads { IfOk result (λ found. Reads name IsName text.now found) }
+    ensures value { IfOk result (λ found. found ≡ name_in text.now) }
+{
+    name_of(alloc, text)
+}

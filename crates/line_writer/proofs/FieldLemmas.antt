@@ -1,0 +1,9 @@
+-- Fields, written one behind another.
+use Rattle.std.proofs.Common.{◌≡◌, ℕ, List, [], ◌∷◌, ◌++◌, sym, ap, append-nil}
+use Rattle.std.specs.List.{join_with_byte}
+use Rattle.line_writer.specs.Fields.{spaced}
+
+-- the first, and each further one behind a space
+pub join_with_byte-cons : (first : List ℕ) (others : List (List ℕ)) → join_with_byte 32 (first ∷ others) ≡ first ++ spaced others
+join_with_byte-cons first [] = sym (append-nil first)
+join_with_byte-cons first (second ∷ others) = ap (λ rest. first ++ 32 ∷ rest) (join_with_byte-cons second others)

@@ -1,0 +1,57 @@
+ghost use Rattle.std.specs.Prelude.{◌≡◌, ◌++◌, OnOk};
+ghost use Rattle.std.specs.List.{flat_map};
+ghost use Rattle.text_model.specs.Line.{is_plain as plain_test, name_octet, name, slash_name, path};
+
+use std::alloc::AllocError;
+use tree_model::Name;
+
+fn is_plain(c: u8) -> bool
+    ensures { result ≡ plain_test c }
+{
+    b'!' <= c && c <= b'~' && c != b'%' && c != b'/'
+}
+
+fn put_octet(out: &mut Vec<u8>, c: u8) -> Result<(), AllocError>
+    ensures { OnOk result (out.new.items ≡ out.old.items ++ name_octet c) }
+{
+    if is_plain(c) {
+        out.push(c)?;
+        return Ok(());
+    }
+    let mut digits = [0; 2];
+    hex::encode_to_slice([c], &mut digits).unwrap();
+    out.push(b'%')?;
+    out.extend_from_slice(&digits)
+}
+
+/// Adds a name: `!` to `~` stand for themselves, but for `%` and the slash, and every other octet
+/// is spelled `%` and its two lower-case hexadecimal digits.
+pub fn put_name(out: &mut Vec<u8>, octets: &[u8]) -> Result<(), AllocError>
+    ensures { OnOk result (out.new.items ≡ out.old.items ++ name octets.now) }
+{
+    for c in octets {
+        put_octet(out, *c)?;
+    }
+    Ok(())
+}
+
+fn put_parts(out: &mut Vec<u8>, parts: &[Name]) -> Result<(), AllocError>
+    ensures { OnOk result (out.new.items ≡ out.old.items ++ flat_map slash_name parts.now) }
+{
+    for part in parts {
+        out.push(b'/')?;
+        put_name(out, part.octets())?;
+    }
+    Ok(())
+}
+
+/// Adds a path: a slash for the root, or a slash and a name for each of its parts.
+pub fn put_path(out: &mut Vec<u8>, parts: &[Name]) -> Result<(), AllocError>
+    ensures { OnOk result (out.new.items ≡ out.old.items ++ path parts.now) }
+{
+    if parts.is_empty() {
+        out.push(b'/')?;
+        return Ok(());
+    }
+    put_parts(out, parts)
+}

@@ -1,0 +1,49 @@
+ghost use Rattle.std.specs.Prelude.{◌≡◌, ◌∷◌, ◌++◌, [], OnOk};
+ghost use Rattle.std.specs.List.{join_with_byte};
+ghost use Rattle.text_model.specs.Line.{number};
+ghost use Rattle.served_model.specs.ReportText.{tree_call, entry_line};
+
+use crate::reply::put_tree_reply;
+use line_writer::{put_line_end, put_number, put_path, put_space, put_word};
+use session_model::TreeEntry;
+use std::alloc::AllocError;
+use tree_model::TreeCall;
+
+// A number and the space behind it.
+fn put_count(out: &mut Vec<u8>, n: u64) -> Result<(), AllocError>
+    ensures { OnOk result (out.new.items ≡ out.old.items ++ number n ++ 32 ∷ []) }
+{
+    put_number(out, n)?;
+    put_space(out)
+}
+
+// The fields of a call on the tree.
+fn put_tree_call(out: &mut Vec<u8>, call: &TreeCall) -> Result<(), AllocError>
+    ensures { OnOk result (out.new.items ≡ out.old.items ++ join_with_byte 32 (tree_call call.now)) }
+{
+    match call {
+        TreeCall::Mkdir(path) => {
+            put_word(out, "mkdir ")?;
+            put_path(out, path.parts.as_slice())
+        }
+        TreeCall::List(path) => {
+            put_word(out, "list ")?;
+            put_path(out, path.parts.as_slice())
+        }
+    }
+}
+
+/// Adds the line of a turn of the tree: the session, its operation, the counts of faults around the
+/// turn, the call and its reply.
+pub fn put_entry_line(out: &mut Vec<u8>, entry: &TreeEntry) -> Result<(), AllocError>
+    ensures { OnOk result (out.new.items ≡ out.old.items ++ entry_line entry.now) }
+{
+    put_count(out, entry.session as u64)?;
+    put_count(out, entry.op as u64)?;
+    put_count(out, entry.before)?;
+    put_count(out, entry.after)?;
+    put_tree_call(out, &entry.call)?;
+    put_word(out, " = ")?;
+    put_tree_reply(out, &entry.reply)?;
+    put_line_end(out)
+}

@@ -1,0 +1,100 @@
+ghost use Rattle.std.specs.Prelude.{◌≡◌, ◌∷◌, ◌++◌, [], IfOk, OnOk};
+ghost use Rattle.std.specs.List.{flat_map};
+ghost use Rattle.text_model.specs.Line.{line, number};
+ghost use Rattle.job_model.specs.JobText.{image_text};
+ghost use Rattle.served_model.specs.ReportText.{reply_line, session_text, sessions_text, entry_line, tree_text, report_text};
+
+use crate::entry::put_entry_line;
+use crate::reply::put_reply_line;
+use line_writer::{put_line_end, put_number, put_space, put_word};
+use lower_image::write_image;
+use lower_model::{Items, LowerTree};
+use session_model::{Reply, TreeEntry};
+use std::alloc::{AllocError, Global};
+
+// A line of a word and how many of them follow.
+fn put_count_line(out: &mut Vec<u8>, word: &str, count: usize) -> Result<(), AllocError>
+    ensures { OnOk result (out.new.items ≡ out.old.items ++ line (word.now ∷ number count ∷ [])) }
+{
+    put_word(out, word)?;
+    put_space(out)?;
+    put_number(out, count as u64)?;
+    put_line_end(out)
+}
+
+fn put_replies(out: &mut Vec<u8>, replies: &[Reply]) -> Result<(), AllocError>
+    ensures { OnOk result (out.new.items ≡ out.old.items ++ flat_map reply_line replies.now) }
+{
+    for reply in replies {
+        put_reply_line(out, reply)?;
+    }
+    Ok(())
+}
+
+fn put_session(out: &mut Vec<u8>, session: usize, replies: &[Reply]) -> Result<(), AllocError>
+    ensures { OnOk result (out.new.items ≡ out.old.items ++ session_text session replies.now) }
+{
+    put_word(out, "session ")?;
+    put_number(out, session as u64)?;
+    put_space(out)?;
+    put_number(out, replies.len() as u64)?;
+    put_line_end(out)?;
+    put_replies(out, replies)
+}
+
+fn put_sessions(out: &mut Vec<u8>, sessions: &[Items<Reply>]) -> Result<(), AllocError>
+    ensures { OnOk result (out.new.items ≡ out.old.items ++ sessions_text 0 sessions.now) }
+{
+    for (session, replies) in sessions.iter().enumerate() {
+        put_session(out, session, replies.as_slice())?;
+    }
+    Ok(())
+}
+
+fn put_entries(out: &mut Vec<u8>, log: &[TreeEntry]) -> Result<(), AllocError>
+    ensures { OnOk result (out.new.items ≡ out.old.items ++ flat_map entry_line log.now) }
+{
+    for entry in log {
+        put_entry_line(out, entry)?;
+    }
+    Ok(())
+}
+
+fn put_tree(out: &mut Vec<u8>, log: &[TreeEntry]) -> Result<(), AllocError>
+    ensures { OnOk result (out.new.items ≡ out.old.items ++ tree_text log.now) }
+{
+    put_count_line(out, "tree", log.len())?;
+    put_entries(out, log)
+}
+
+fn put_image(out: &mut Vec<u8>, octets: &[u8]) -> Result<(), AllocError>
+    ensures { OnOk result (out.new.items ≡ out.old.items ++ image_text octets.now) }
+{
+    put_count_line(out, "image", octets.len())?;
+    out.extend_from_slice(octets)?;
+    put_line_end(out)
+}
+
+/// The text of a report: the replies of each session, by the sessions' numbers, the tree's
+/// history, and the lower tree after the run.
+pub fn write_report(
+    alloc: Global,
+    sessions: &[Items<Reply>],
+    tree: &[TreeEntry],
+    image: &LowerTree,
+) -> Result<Vec<u8>, AllocError>
+    ensures { IfOk result (λ out. out.items ≡ report_text (record {
+      sessions = sessions.now;
+      histories = record { tree = tree.now };
+      image = image.now;
+    })) }
+{
+    let octets = write_image(alloc, image)?;
+    let mut out = Vec::new(alloc);
+    put_word(&mut out, "ecryptfs-report 1\n")?;
+    put_sessions(&mut out, sessions)?;
+    put_tree(&mut out, tree)?;
+    put_image(&mut out, &octets)?;
+    put_word(&mut out, "end\n")?;
+    Ok(out)
+}
