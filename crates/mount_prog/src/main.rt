@@ -1,0 +1,40 @@
+//! The program `ecryptfs`: a job on standard input, its report on standard output.
+#![tactic(auto)]
+
+mod streams;
+
+use mount_run::{MEMORY, OK, USAGE, run_alone, status_name};
+use std::process::ExitCode;
+use std::{env, io};
+use streams::{StdSink, StdSource};
+
+/// The words of the command line, without the program's name.
+fn words(rt: &HostRuntime) -> io::Result<Vec<String>> {
+    let mut words = Vec::new(rt.alloc());
+    for word in env::args(rt)?.skip(1) {
+        words.push(word)?;
+    }
+    Ok(words)
+}
+
+/// Does what the command line says.
+fn status(rt: &HostRuntime) -> u8 {
+    match words(rt) {
+        Ok(words) => run_alone(
+            rt.alloc(),
+            &words,
+            &mut StdSource::new(rt),
+            &mut StdSink::new(rt),
+        ),
+        Err(error) if error.kind() == io::ErrorKind::OutOfMemory => MEMORY,
+        Err(_) => USAGE,
+    }
+}
+
+fn main(rt: HostRuntime) -> ExitCode {
+    let status = status(&rt);
+    if status != OK {
+        let _ = eprintln!(rt; "ecryptfs: {}", status_name(status));
+    }
+    ExitCode::from(status)
+}

@@ -1,0 +1,18 @@
+//! A whole run of the program: a job in, a report out.
+#![tactic(auto)]
+
+mod ends;
+mod memory;
+mod run;
+mod serve;
+mod status;
+mod stream;
+mod words;
+
+pub use ends::{Failed, Sink, Source};
+pub use memory::{MemSink, MemSource};
+pub use run::run_alone;
+pub use status::{BAD_JOB, MEMORY, OK, READ_FAULT, USAGE, WRITE_FAULT, status_name};
+
+#[cfg(test)]
+mod tests;

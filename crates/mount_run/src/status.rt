@@ -1,0 +1,30 @@
+/// The job was done, and its output is written.
+pub const OK: u8 = 0;
+
+/// Memory ran out before the first octet of output was written.
+pub const MEMORY: u8 = 1;
+
+/// The words are in no command's grammar.
+pub const USAGE: u8 = 2;
+
+/// The input is no job.
+pub const BAD_JOB: u8 = 3;
+
+/// The input couldn't be read.
+pub const READ_FAULT: u8 = 4;
+
+/// The output couldn't be written to its end.
+pub const WRITE_FAULT: u8 = 5;
+
+/// What a status other than `OK` is called on standard error.
+pub fn status_name(status: u8) -> &'static str {
+    match status {
+        OK => "ok",
+        MEMORY => "memory",
+        USAGE => "usage",
+        BAD_JOB => "bad job",
+        READ_FAULT => "read fault",
+        WRITE_FAULT => "write fault",
+        _ => "unknown",
+    }
+}
