@@ -1,0 +1,87 @@
+// A key, ready for use.
+ghost use Rattle.std.specs.Prelude.{◌≡◌, ◌≤◌, List, ℕ};
+ghost use Rattle.cipher_model.specs.Aes.{IsBlock};
+
+use crate::{cipher, inverse, keys, words};
+use std::marker::Model;
+
+/// A key of 16 octets with the round keys that FIPS 197, 5.2, makes of it. A clause sees it as the list of the key's octets.
+#[derive(Drop)]
+pub struct RoundKeys {
+    key: [u8; 16],
+    words: [u32; 44],
+    // The words under InvMixColumns.
+    unmixed: [u32; 44],
+}
+
+impl Model for RoundKeys {
+    ghost use Rattle.std.specs.Prelude.{List, ℕ};
+    ghost use Rattle.aes_block.specs.Words.{AreKeyWords};
+
+    ghost Value = { List ℕ };
+
+    ghost view = { λ k. k.key };
+
+    ghost invariant = { λ k. AreKeyWords k.key k.words k.unmixed };
+}
+
+impl RoundKeys {
+    ghost use Rattle.cipher_model.specs.Aes.{decrypted, encrypted, round_key};
+
+    /// The round keys of `key`.
+    pub fn new(key: &[u8; 16]) -> RoundKeys
+        ensures { result ≡ key.now }
+    {
+        let words = keys::key_schedule(key);
+        let unmixed = inverse::unmixed_words(&words);
+        RoundKeys {
+            key: *key,
+            words,
+            unmixed,
+        }
+    }
+
+    /// The key itself.
+    pub fn key(&self) -> [u8; 16]
+        ensures { result ≡ self.now }
+    {
+        self.key
+    }
+
+    /// The round key that is added after round `r`, or before the first for 0, as 16 octets (FIPS 197, 5.1.4).
+    pub fn round_key(&self, r: usize) -> [u8; 16]
+        requires { r ≤ 10 }
+        ensures { result ≡ round_key self.now r }
+    {
+        words::stored(words::key_at(&self.words, 4 * r))
+    }
+
+    /// Encrypts one block in place (FIPS 197, 5.1).
+    #[inline]
+    pub fn encrypt(&self, block: &mut [u8; 16])
+        ensures value { block.new ≡ encrypted self.now block.old }
+        ensures whole { IsBlock block.new }
+
+        // The inverse cipher undoes it.
+        ensures undone { decrypted self.now block.new ≡ block.old }
+    {
+        *block = words::stored(cipher::encrypted_words(&self.words, words::loaded(block)));
+    }
+
+    /// Decrypts one block in place (FIPS 197, 5.3).
+    #[inline]
+    pub fn decrypt(&self, block: &mut [u8; 16])
+        ensures value { block.new ≡ decrypted self.now block.old }
+        ensures whole { IsBlock block.new }
+
+        // The cipher undoes it, and it undoes the cipher.
+        ensures undone { encrypted self.now block.new ≡ block.old }
+        ensures undoes { (b : List ℕ) → IsBlock b → block.old ≡ encrypted self.now b → block.new ≡ b }
+    {
+        *block = words::stored(inverse::decrypted_words(
+            &self.unmixed,
+            &self.words,
+            words::loaded(block),
+        ));
+    }
+}

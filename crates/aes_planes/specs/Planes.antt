@@ -1,0 +1,36 @@
+-- Bit planes: lane i of plane b has, as its bit m, bit b of byte i of block m.
+use Rattle.std.specs.Prelude.{◌≡◌, ◌<◌, ℕ, ◌+◌, ◌*◌, ◌-◌, ◌/◌, ◌%◌, ◌==◌, if◌then◌else◌, List, [], ◌∷◌, slice_index, slice_index_or}
+use Rattle.std.specs.Int.{bit_at}
+use Rattle.cipher_model.specs.Aes.{each_byte, round_key}
+use Rattle.aes_planes.specs.declared.planes.Planes.{Planes}
+
+-- bit m of lane i
+abbrev pub bit_of : List ℕ → ℕ → ℕ → ℕ
+bit_of p i m = bit_at (slice_index p i) m
+
+-- the byte with these bits, lowest first
+abbrev pub from_bits : ℕ → ℕ → ℕ → ℕ → ℕ → ℕ → ℕ → ℕ → ℕ
+from_bits a b c d e f g h = a + 2 * (b + 2 * (c + 2 * (d + 2 * (e + 2 * (f + 2 * (g + 2 * h))))))
+
+-- bit m of lane i of each plane, as a byte: byte i of block m
+abbrev pub byte_in : Planes → ℕ → ℕ → ℕ
+byte_in q i m = from_bits (bit_of q.p0 i m) (bit_of q.p1 i m) (bit_of q.p2 i m) (bit_of q.p3 i m) (bit_of q.p4 i m) (bit_of q.p5 i m) (bit_of q.p6 i m) (bit_of q.p7 i m)
+
+-- block m
+abbrev pub block_in : Planes → ℕ → List ℕ
+block_in q m = each_byte (λ i. byte_in q i m)
+
+-- bit m of lane i of the first of two vectors whose bits, n places apart, were exchanged, and of the second
+abbrev pub first_exchanged : ℕ → List ℕ → List ℕ → ℕ → ℕ → ℕ
+first_exchanged n a b i m = if m / n % 2 == 0 then bit_of a i m else bit_of b i (m - n)
+
+abbrev pub second_exchanged : ℕ → List ℕ → List ℕ → ℕ → ℕ → ℕ
+second_exchanged n a b i m = if m / n % 2 == 0 then bit_of a i (m + n) else bit_of b i m
+
+-- vector m of the eight
+abbrev pub plane : Planes → ℕ → List ℕ
+plane q m = slice_index_or (q.p0 ∷ q.p1 ∷ q.p2 ∷ q.p3 ∷ q.p4 ∷ q.p5 ∷ q.p6 ∷ q.p7 ∷ []) m []
+
+-- each block of the planes of round r is the round key r of the key k
+abbrev pub AreRoundKeys : List ℕ → List Planes → Type 0
+AreRoundKeys k rounds = (r : ℕ) → r < 11 → (d : Planes) → (m : ℕ) → m < 8 → block_in (slice_index_or rounds r d) m ≡ round_key k r

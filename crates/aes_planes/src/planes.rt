@@ -1,0 +1,78 @@
+// Vectors of 16 octets, and the operations of a circuit on all their bits at once.
+ghost use Rattle.std.specs.Prelude.{◌≡◌, ℕ, ◌<◌};
+ghost use Rattle.std.specs.Int.Bits.{bit_xor, bit_and};
+ghost use Rattle.cipher_model.specs.Aes.{IsBlock};
+ghost use Rattle.aes_planes.specs.Planes.{bit_of, plane};
+
+use std::simd::prelude::*;
+
+/// Eight vectors of 16 octets: eight blocks, one in each, or the bit planes of those blocks, where bit `m` of lane `i` of plane `b` is
+/// bit `b` of octet `i` of block `m`.
+#[derive(Clone, Copy)]
+pub struct Planes {
+    pub p0: u8x16,
+    pub p1: u8x16,
+    pub p2: u8x16,
+    pub p3: u8x16,
+    pub p4: u8x16,
+    pub p5: u8x16,
+    pub p6: u8x16,
+    pub p7: u8x16,
+}
+
+#[inline(always)]
+pub fn xor(a: u8x16, b: u8x16) -> u8x16
+    ensures { (i m : ℕ) → bit_of result i m ≡ bit_xor (bit_of a i m) (bit_of b i m) }
+{
+    a ^ b
+}
+
+#[inline(always)]
+pub fn and(a: u8x16, b: u8x16) -> u8x16
+    ensures { (i m : ℕ) → bit_of result i m ≡ bit_and (bit_of a i m) (bit_of b i m) }
+{
+    a & b
+}
+
+#[inline(always)]
+pub fn not(a: u8x16) -> u8x16
+    ensures { (i m : ℕ) → i < 16 → m < 8 → bit_of result i m ≡ bit_xor (bit_of a i m) 1 }
+{
+    a ^ u8x16::splat(255)
+}
+
+/// The vector itself. What its type says of it, that it has 16 octets, is a fact after the call.
+#[inline(always)]
+pub fn known(a: u8x16) -> u8x16
+    ensures value { result ≡ a }
+    ensures block { IsBlock result }
+{
+    a
+}
+
+#[inline(always)]
+pub fn known_all(q: Planes) -> Planes
+    ensures value { result ≡ q }
+    ensures blocks { (m : ℕ) → m < 8 → IsBlock (plane result m) }
+{
+    let Planes {
+        p0: q0,
+        p1: q1,
+        p2: q2,
+        p3: q3,
+        p4: q4,
+        p5: q5,
+        p6: q6,
+        p7: q7,
+    } = q;
+    Planes {
+        p0: known(q0),
+        p1: known(q1),
+        p2: known(q2),
+        p3: known(q3),
+        p4: known(q4),
+        p5: known(q5),
+        p6: known(q6),
+        p7: known(q7),
+    }
+}

@@ -1,0 +1,8 @@
+use Rattle.std.proofs.Common.{◌≡◌}
+use Rattle.cipher_model.specs.Aes.{encrypted}
+use Rattle.cipher_model.specs.Blocks.{block_at}
+use Rattle.cbc_mode.specs.Steps.{IsDone}
+use Rattle.cbc_mode.proofs.ecb.ecb_decrypt.Given as goal
+
+abbrev pub invariant-each : goal.invariant-each
+invariant-each l = IsDone (λ j b. block_at l.fn.octets j ≡ encrypted l.keys b) l.fn.octets l.octets l.i

@@ -1,0 +1,9 @@
+pub mod Tables
+pub mod FieldLaws
+pub mod SubByteLaws
+pub mod MixLaws
+pub mod States
+pub mod InverseCipher
+pub mod Texts
+pub mod PlainTexts
+pub mod WorkedExamples
