@@ -1,0 +1,3 @@
+pub mod PassphraseKey
+pub mod FileKey
+pub mod ExtentIv

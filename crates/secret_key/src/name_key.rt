@@ -1,0 +1,53 @@
+ghost use Rattle.std.specs.Prelude.{◌≡◌};
+
+use crate::secret::Secret;
+use crate::wrapping_key::Kek;
+use std::marker::Model;
+
+/// A file name encryption key: the key of a mount's names, with its signature. It has to be spent.
+/// Contracts see its octets and its signature.
+pub struct Fnek {
+    key: Kek,
+    signature: Secret<8>,
+}
+
+impl Model for Fnek {
+    ghost use Rattle.secret_key.specs.SignedKey.{SignedKey};
+
+    ghost Value = { SignedKey };
+
+    ghost view = { λ k. record { octets = k.key; signature = k.signature } };
+}
+
+impl Fnek {
+    /// The name key with this key's octets and this signature.
+    pub fn new(key: Kek, signature: [u8; 8]) -> Fnek
+        ensures { result ≡ record { octets = key; signature = signature } }
+    {
+        Fnek {
+            key,
+            signature: Secret::new(signature),
+        }
+    }
+
+    /// The key's octets.
+    pub fn octets(&self) -> &[u8; 64]
+        ensures { result.now ≡ self.now.octets }
+    {
+        self.key.octets()
+    }
+
+    /// The key's signature.
+    pub fn signature(&self) -> [u8; 8]
+        ensures { result ≡ self.now.signature }
+    {
+        *self.signature.octets()
+    }
+
+    /// Ends the key, with zeros over its octets and its signature.
+    pub fn spend(self) {
+        let Fnek { key, signature } = self;
+        key.spend();
+        signature.wipe();
+    }
+}

@@ -1,0 +1,41 @@
+ghost use Rattle.std.specs.Prelude.{◌≡◌, ℕ, List, replicate};
+
+use std::marker::Model;
+
+// Octets that may be let go only once they are zeros.
+pub struct Secret<const N: usize> {
+    octets: [u8; N],
+}
+
+impl<const N: usize> Model for Secret<N> {
+    ghost Value = { List ℕ };
+
+    ghost view = { λ s. s.octets };
+}
+
+impl<const N: usize> Drop for Secret<N> {
+    fn drop(self)
+        requires { self ≡ replicate N 0 }
+    {
+        let Secret { octets: _ } = self;
+    }
+}
+
+impl<const N: usize> Secret<N> {
+    pub fn new(octets: [u8; N]) -> Secret<N>
+        ensures { result ≡ octets.entry }
+    {
+        Secret { octets }
+    }
+
+    pub fn octets(&self) -> &[u8; N]
+        ensures { result.now ≡ self.now }
+    {
+        &self.octets
+    }
+
+    // Lets the octets go, with zeros over them.
+    pub fn wipe(mut self) {
+        self.octets.fill(0);
+    }
+}
