@@ -1,0 +1,15 @@
+//! The metadata at the head of an eCryptfs body, or in its attribute: its fields, its checks in their order, and new
+//! metadata.
+#![tactic(auto)]
+
+mod fields;
+mod meta;
+mod reading;
+#[cfg(test)]
+mod tests;
+mod writing;
+
+pub use meta::{HeaderError, Meta, NewMeta};
+pub use packet_model::{BadCause, MAX_SIZE, MetaPlace};
+pub use reading::read_header;
+pub use writing::{write_header, write_size};

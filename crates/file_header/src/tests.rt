@@ -1,0 +1,172 @@
+use crate::{
+    BadCause, HeaderError, Meta, MetaPlace, NewMeta, read_header, write_header, write_size,
+};
+use packet_set::Ring;
+use secret_key::Kek;
+use std::test::Fail;
+
+struct OwnRing {
+    signature: [u8; 8],
+    kek: Kek,
+}
+
+impl Ring for OwnRing {
+    ghost ring_signature = { λ r. r.signature };
+
+    ghost ring_kek = { λ r. r.kek };
+
+    fn signature(&self) -> [u8; 8] {
+        self.signature
+    }
+
+    fn kek(&self) -> &Kek {
+        &self.kek
+    }
+}
+
+const OURS: [u8; 8] = [9, 8, 7, 6, 5, 4, 3, 2];
+
+const SIGNATURE: [u8; 8] = [1, 2, 3, 4, 5, 6, 7, 8];
+
+// The wrapped key is the cipher text of FIPS 197, C.1.
+const NEW: NewMeta = NewMeta {
+    size: 1,
+    m1: 0x1122_3344,
+    flags: 0x2,
+    salt: [0x00, 0x11, 0x22, 0x33, 0x44, 0x55, 0x66, 0x77],
+    wrapped: [
+        0x69, 0xc4, 0xe0, 0xd8, 0x6a, 0x7b, 0x04, 0x30, 0xd8, 0xcd, 0xb7, 0x80, 0x70, 0xb4, 0xc5,
+        0x5a,
+    ],
+    signature: SIGNATURE,
+    form: MetaPlace::Header,
+};
+
+// A header as the usual tool writes it.
+const FIELDS: [u8; 26] = [
+    0x00, 0x00, 0x00, 0x00, 0x00, 0x00, 0x00, 0x01, 0x11, 0x22, 0x33, 0x44, 0x2d, 0xa3, 0x84, 0xb1,
+    0x03, 0x00, 0x00, 0x0a, 0x00, 0x00, 0x10, 0x00, 0x00, 0x02,
+];
+
+const PACKETS: [u8; 55] = [
+    0x8c, 0x1d, 0x04, 0x07, 0x03, 0x01, 0x00, 0x11, 0x22, 0x33, 0x44, 0x55, 0x66, 0x77, 0x60, 0x69,
+    0xc4, 0xe0, 0xd8, 0x6a, 0x7b, 0x04, 0x30, 0xd8, 0xcd, 0xb7, 0x80, 0x70, 0xb4, 0xc5, 0x5a, 0xed,
+    0x16, 0x62, 0x08, 0x5f, 0x43, 0x4f, 0x4e, 0x53, 0x4f, 0x4c, 0x45, 0x00, 0x00, 0x00, 0x00, 0x01,
+    0x02, 0x03, 0x04, 0x05, 0x06, 0x07, 0x08,
+];
+
+fn tool_header() -> [u8; 81] {
+    let mut octets = [0; 81];
+    octets[..26].copy_from_slice(&FIELDS);
+    octets[26..].copy_from_slice(&PACKETS);
+    octets
+}
+
+// The size, the flags, the size of the metadata and the file key, or why there are none.
+fn outcome(
+    rt: &HostRuntime,
+    octets: &[u8],
+    form: MetaPlace,
+    signature: [u8; 8],
+) -> Result<(u64, u32, u64, [u8; 16]), HeaderError> {
+    let mut key = [0; 64];
+    key[..16].copy_from_slice(&[0, 1, 2, 3, 4, 5, 6, 7, 8, 9, 10, 11, 12, 13, 14, 15]);
+    let ring = OwnRing {
+        signature,
+        kek: Kek::new(key),
+    };
+    let read = read_header(rt.alloc(), octets, form, &ring);
+    let OwnRing { signature: _, kek } = ring;
+    kek.spend();
+    let Meta {
+        size,
+        flags,
+        meta_size,
+        fek,
+    } = read?;
+    let key = *fek.octets();
+    fek.spend();
+    Ok((size, flags, meta_size, key))
+}
+
+// The block of FIPS 197, C.1.
+const KEY: [u8; 16] = [
+    0x00, 0x11, 0x22, 0x33, 0x44, 0x55, 0x66, 0x77, 0x88, 0x99, 0xaa, 0xbb, 0xcc, 0xdd, 0xee, 0xff,
+];
+
+#[test]
+fn reads_a_header(rt: HostRuntime) {
+    let octets = tool_header();
+    for form in [MetaPlace::Header, MetaPlace::Attribute] {
+        assert_eq!(rt;
+            outcome(&rt, &octets, form, SIGNATURE),
+            Ok((1, 0xa, 8192, KEY))
+        );
+    }
+}
+
+#[test]
+fn names_the_first_cause(rt: HostRuntime) {
+    let changes: [(usize, u8, BadCause); 9] = [
+        (15, 0xb0, BadCause::Marker(0x1122_3344, 0x2da3_84b0)),
+        (16, 2, BadCause::Version(2)),
+        (19, 3, BadCause::Hmac),
+        (19, 8, BadCause::NotEncrypted),
+        (25, 1, BadCause::HeaderSize(4096)),
+        (26, 0x00, BadCause::NoPacket),
+        (26, 0x01, BadCause::Tag1(26)),
+        (26, 0xed, BadCause::Packet(26)),
+        (3, 1, BadCause::TooLarge(0x1_0000_0001)),
+    ];
+    for (place, octet, cause) in changes {
+        assert!(rt; place < 81);
+        let mut octets = tool_header();
+        octets[place] = octet;
+        assert_eq!(rt;
+            outcome(&rt, &octets, MetaPlace::Header, SIGNATURE),
+            Err(HeaderError::Bad(cause))
+        );
+    }
+    let octets = tool_header();
+    let cuts: [(usize, BadCause); 5] = [
+        (25, BadCause::Short(25)),
+        (26, BadCause::NoPacket),
+        (56, BadCause::Packet(26)),
+        (57, BadCause::Packet(57)),
+        (80, BadCause::Packet(57)),
+    ];
+    for (len, cause) in cuts {
+        assert!(rt; len <= 81);
+        assert_eq!(rt;
+            outcome(&rt, &octets[..len], MetaPlace::Header, SIGNATURE),
+            Err(HeaderError::Bad(cause))
+        );
+    }
+    assert_eq!(rt;
+        outcome(&rt, &octets, MetaPlace::Header, OURS),
+        Err(HeaderError::Bad(BadCause::WrongKey(SIGNATURE, OURS)))
+    );
+}
+
+#[test]
+fn writes_a_header(rt: HostRuntime) -> Result<(), Fail> {
+    let octets = write_header(rt.alloc(), &NEW)?;
+    assert_eq!(rt; octets.len(), 8192);
+    assert_eq!(rt; &octets[26..81], PACKETS.as_slice());
+    assert_eq!(rt;
+        outcome(&rt, &octets, MetaPlace::Header, SIGNATURE),
+        Ok((1, 2, 8192, KEY))
+    );
+    let attribute = NewMeta {
+        form: MetaPlace::Attribute,
+        ..NEW
+    };
+    let mut octets = write_header(rt.alloc(), &attribute)?;
+    assert_eq!(rt; octets.len(), 81);
+    write_size(&mut octets, 5);
+    assert_eq!(rt;
+        outcome(&rt, &octets, MetaPlace::Attribute, SIGNATURE),
+        Ok((5, 2, 8192, KEY))
+    );
+    Ok(())
+}

@@ -1,0 +1,6 @@
+pub mod Found
+pub mod Lengths
+pub mod Packets
+pub mod Sets
+pub mod Steps
+mod Worked

@@ -1,0 +1,13 @@
+//! Packets and file metadata of eCryptfs as definitions: what spells them, what octets are read as, and the causes
+//! of a bad file in their order.
+#![tactic(auto)]
+
+mod cause;
+mod length;
+mod packet;
+mod place;
+
+pub use cause::{BadCause, MAX_SIZE};
+pub use length::LengthFault;
+pub use packet::{PacketError, Pair, Tag3, Tag11};
+pub use place::MetaPlace;

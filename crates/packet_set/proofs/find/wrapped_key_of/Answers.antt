@@ -1,0 +1,60 @@
+use Rattle.std.proofs.Common.{◌≡◌, ◌∷◌, [], take, drop, length, ◌-◌, true, ap, sym, subst, ◌∙◌, arith}
+use Rattle.std.specs.Prelude.{not}
+use Rattle.std.proofs.lemmas.Bool.{not-false}
+use Rattle.std.proofs.lemmas.List.{take_rest}
+use Rattle.std.proofs.lemmas.Result.{err_from_is_err_and}
+use Rattle.packet_model.specs.PacketSet.{begins_pair, key_at, key_if_found, usable_key}
+use Rattle.packet_model.proofs.Found.{AreOctets-from_each}
+use Rattle.packet_set.specs.Gives.{GivesAs, wrapped_key}
+use Rattle.packet_set.proofs.Keys.{first_fails, HasFirst, others_fail, found_is}
+use Rattle.packet_set.proofs.find.wrapped_key_of.Goals as goal
+
+pub returns-in_err-first : goal.returns-in_err-first
+returns-in_err-first c =
+    let p = err_from_is_err_and c.from_residual.result c.from_residual.ensures.1 in
+    let begins : begins_pair c.args.octets.now ≡ true = sym c.begins_pair.ensures ∙ c.if-not-begins_pair.false in
+    rw (p.1, p.2) (first_fails c.in_err-first.field-0.0 (c.args.ours.now ∷ []) c.args.octets.now begins c.in_err-first.ensures.pair)
+
+pub returns-in_err-own_pair : goal.returns-in_err-own_pair
+returns-in_err-own_pair c =
+    let p = err_from_is_err_and c.from_residual-in_err-own_pair.result c.from_residual-in_err-own_pair.ensures.1 in
+    let octets = c.args.octets.now in
+    let rest = take (length octets - c.in_ok-first.used) (drop c.in_ok-first.used octets) in
+    let first : HasFirst (c.args.ours.now ∷ []) octets (c.in_ok-first.first, c.in_ok-first.used) c.kept_with-kept.result rest = record {
+      fits = AreOctets-from_each octets (λ i. omega (arith, c.type_inv.octets i));
+      begins = sym c.begins_pair.ensures ∙ c.if-not-begins_pair.false;
+      pair = c.in_ok-first.ensures.pair;
+      keeps = c.kept_with-kept.ensures;
+      behind = take_rest octets c.in_ok-first.used;
+    } in
+    rw (p.1, p.2) (others_fail c.in_err-own_pair.field-0.0 (c.args.ours.now ∷ []) octets (c.in_ok-first.first, c.in_ok-first.used) c.kept_with-kept.result rest first c.in_err-own_pair.ensures)
+
+pub returns-in-None : goal.returns-in-None
+returns-in-None c =
+    let octets = c.args.octets.now in
+    let rest = take (length octets - c.in_ok-first.used) (drop c.in_ok-first.used octets) in
+    let first : HasFirst (c.args.ours.now ∷ []) octets (c.in_ok-first.first, c.in_ok-first.used) c.kept_with-kept.result rest = record {
+      fits = AreOctets-from_each octets (λ i. omega (arith, c.type_inv.octets i));
+      begins = sym c.begins_pair.ensures ∙ c.if-not-begins_pair.false;
+      pair = c.in_ok-first.ensures.pair;
+      keeps = c.kept_with-kept.ensures;
+      behind = take_rest octets c.in_ok-first.used;
+    } in
+    found_is (c.args.ours.now ∷ []) octets (c.in_ok-first.first, c.in_ok-first.used) c.kept_with-kept.result c.in_ok-own_pair.field-0 rest first c.in_ok-own_pair.ensures
+    ∙ ap (key_if_found c.in_ok-first.first.tag11.signature c.args.ours.now) c.in-None.is
+
+pub returns-in-Some : goal.returns-in-Some
+returns-in-Some c =
+    let octets = c.args.octets.now in
+    let rest = take (length octets - c.in_ok-first.used) (drop c.in_ok-first.used octets) in
+    let first : HasFirst (c.args.ours.now ∷ []) octets (c.in_ok-first.first, c.in_ok-first.used) c.kept_with-kept.result rest = record {
+      fits = AreOctets-from_each octets (λ i. omega (arith, c.type_inv.octets i));
+      begins = sym c.begins_pair.ensures ∙ c.if-not-begins_pair.false;
+      pair = c.in_ok-first.ensures.pair;
+      keeps = c.kept_with-kept.ensures;
+      behind = take_rest octets c.in_ok-first.used;
+    } in
+    let is : key_at (c.args.ours.now ∷ []) octets ≡ usable_key c.in-Some.pair =
+    found_is (c.args.ours.now ∷ []) octets (c.in_ok-first.first, c.in_ok-first.used) c.kept_with-kept.result c.in_ok-own_pair.field-0 rest first c.in_ok-own_pair.ensures
+    ∙ ap (key_if_found c.in_ok-first.first.tag11.signature c.args.ours.now) c.in-Some.is in
+    subst (GivesAs (λ w. wrapped_key w.signature w.octets) c.usable.result) (sym is) c.usable.ensures
