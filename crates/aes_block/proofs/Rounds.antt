@@ -1,12 +1,12 @@
 -- The rounds of the cipher on words.
-use Rattle.std.proofs.Common.{◌≡◌, ℕ, suc, ◌+◌, ◌-◌, ◌*◌, ◌<◌, ◌≤◌, bit_xor, List, [], ◌∷◌, refl, sym, ap, ◌∙◌, arith}
+use Rattle.std.proofs.Common.{◌≡◌, ℕ, ◌*◌, ◌<◌, bit_xor, List, [], ◌∷◌, refl, ap, ◌∙◌}
 use Rattle.std.specs.Prelude.{slice_index}
 use Rattle.cipher_model.specs.Field.{sub_byte}
 use Rattle.cipher_model.specs.Aes.{mixed_byte, word, byte_of, bytes_at, add_round_key, mix_columns, shift_rows, sub_bytes, rounds, encrypted_with}
 use Rattle.aes_block.specs.Words.{mixed_word}
 use Rattle.cipher_model.proofs.SubByteLaws.{sub_byte-lt}
 use Rattle.cipher_model.proofs.MixLaws.{mixed_byte-lt}
-use Rattle.aes_block.proofs.WordBytes.{byte_of-lt, byte_of-xor, byte_of-word0, byte_of-word1, byte_of-word2, byte_of-word3, subbed_bytes}
+use Rattle.aes_block.proofs.WordBytes.{byte_of-lt, byte_of-xor, byte_of-word0, byte_of-word1, byte_of-word2, byte_of-word3, subbed_bytes, word-parts}
 use Rattle.aes_block.proofs.Columns.{mixed_word-parts}
 
 -- byte r of word w, under SubBytes
@@ -65,6 +65,13 @@ round_bytes s k w0 w1 w2 w3 e0 e1 e2 e3 =
     (column_bytes w2 (slice_index k 2) (b 2 0) (b 3 1) (b 0 2) (b 1 3) _ _ (lt 2 0) (lt 3 1) (lt 0 2) (lt 1 3) e2
     (column_bytes w3 (slice_index k 3) (b 3 0) (b 0 1) (b 1 2) (b 2 3) [] [] (lt 3 0) (lt 0 1) (lt 1 2) (lt 2 3) e3 refl)))
 
+pub subbed_column-parts : (a b c d w x y z : ℕ)
+    → w ≡ word (subbed a 0) 0 0 0 → x ≡ word 0 (subbed b 1) 0 0 → y ≡ word 0 0 (subbed c 2) 0 → z ≡ word 0 0 0 (subbed d 3)
+    → bit_xor (bit_xor (bit_xor w x) y) z ≡ word (subbed a 0) (subbed b 1) (subbed c 2) (subbed d 3)
+subbed_column-parts a b c d w x y z ew ex ey ez =
+    (λ i. bit_xor (bit_xor (bit_xor (ew i) (ex i)) (ey i)) (ez i))
+    ∙ word-parts (subbed a 0) (subbed b 1) (subbed c 2) (subbed d 3) (subbed-lt b 1) (subbed-lt c 2) (subbed-lt d 3)
+
 abbrev pub subbed_of : List ℕ → ℕ → ℕ → ℕ → ℕ → ℕ
 subbed_of s i j m n = word (subbed (slice_index s i) 0) (subbed (slice_index s j) 1) (subbed (slice_index s m) 2) (subbed (slice_index s n) 3)
 
@@ -83,27 +90,25 @@ last_round_bytes s k w0 w1 w2 w3 e0 e1 e2 e3 =
 
 -- ---- one round after another
 
-pub rounds_none : (ws b : List ℕ) → rounds ws b 0 ≡ add_round_key b (bytes_at ws 0)
+abbrev next : List ℕ → List ℕ → ℕ → List ℕ
+next ws s r = add_round_key (mix_columns (shift_rows (sub_bytes s))) (bytes_at ws (4 * r))
+
+-- the states s0 to s9 and the last, t, each made of the one before it
+pub encrypted_is : (ws b s0 s1 s2 s3 s4 s5 s6 s7 s8 s9 t : List ℕ)
+    → s0 ≡ add_round_key b (bytes_at ws 0) → s1 ≡ next ws s0 1 → s2 ≡ next ws s1 2 → s3 ≡ next ws s2 3 → s4 ≡ next ws s3 4 → s5 ≡ next ws s4 5
+    → s6 ≡ next ws s5 6 → s7 ≡ next ws s6 7 → s8 ≡ next ws s7 8 → s9 ≡ next ws s8 9
+    → t ≡ add_round_key (shift_rows (sub_bytes s9)) (bytes_at ws 40) → t ≡ encrypted_with 10 ws b
 unfolding rounds
-rounds_none ws b = refl
-
-rounds_suc : (ws b : List ℕ) (n : ℕ)
-    → rounds ws b (suc n) ≡ add_round_key (mix_columns (shift_rows (sub_bytes (rounds ws b n)))) (bytes_at ws (4 * (n + 1)))
-unfolding rounds
-rounds_suc ws b n = refl
-
-pub rounds_more : (ws b s t : List ℕ) (r : ℕ) → 1 ≤ r → s ≡ rounds ws b (r - 1)
-    → t ≡ add_round_key (mix_columns (shift_rows (sub_bytes s))) (bytes_at ws (4 * r))
-    → t ≡ rounds ws b (r + 1 - 1)
-rounds_more ws b s t r pos e f =
-    let n : ℕ = r - 1 in
-    let p : r ≡ n + 1 = omega arith in
-    let q : suc n ≡ r + 1 - 1 = omega arith in
-    f ∙ (λ i. add_round_key (mix_columns (shift_rows (sub_bytes (e i)))) (bytes_at ws (4 * p i)))
-    ∙ sym (rounds_suc ws b n) ∙ ap (λ (m : ℕ). rounds ws b m) q
-
-pub rounds_all : (ws b s t : List ℕ) (r : ℕ) → r ≡ 10 → s ≡ rounds ws b (r - 1)
-    → t ≡ add_round_key (shift_rows (sub_bytes s)) (bytes_at ws 40) → t ≡ encrypted_with 10 ws b
-rounds_all ws b s t r ten e f =
-    let q : r - 1 ≡ 9 = omega arith in
-    f ∙ ap (λ (u : List ℕ). add_round_key (shift_rows (sub_bytes u)) (bytes_at ws 40)) (e ∙ ap (λ (m : ℕ). rounds ws b m) q)
+encrypted_is ws b s0 s1 s2 s3 s4 s5 s6 s7 s8 s9 t e0 e1 e2 e3 e4 e5 e6 e7 e8 e9 e =
+    let then : (s u : List ℕ) (r : ℕ) → s ≡ u → next ws s r ≡ next ws u r = λ s u r e. ap (λ (x : List ℕ). next ws x r) e in
+    let r0 : s0 ≡ rounds ws b 0 = e0 in
+    let r1 : s1 ≡ rounds ws b 1 = e1 ∙ then s0 (rounds ws b 0) 1 r0 in
+    let r2 : s2 ≡ rounds ws b 2 = e2 ∙ then s1 (rounds ws b 1) 2 r1 in
+    let r3 : s3 ≡ rounds ws b 3 = e3 ∙ then s2 (rounds ws b 2) 3 r2 in
+    let r4 : s4 ≡ rounds ws b 4 = e4 ∙ then s3 (rounds ws b 3) 4 r3 in
+    let r5 : s5 ≡ rounds ws b 5 = e5 ∙ then s4 (rounds ws b 4) 5 r4 in
+    let r6 : s6 ≡ rounds ws b 6 = e6 ∙ then s5 (rounds ws b 5) 6 r5 in
+    let r7 : s7 ≡ rounds ws b 7 = e7 ∙ then s6 (rounds ws b 6) 7 r6 in
+    let r8 : s8 ≡ rounds ws b 8 = e8 ∙ then s7 (rounds ws b 7) 8 r7 in
+    let r9 : s9 ≡ rounds ws b 9 = e9 ∙ then s8 (rounds ws b 8) 9 r8 in
+    e ∙ ap (λ (x : List ℕ). add_round_key (shift_rows (sub_bytes x)) (bytes_at ws 40)) r9

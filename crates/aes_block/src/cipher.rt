@@ -1,11 +1,12 @@
 // The rounds of the cipher, on four words.
 ghost use Rattle.std.specs.Prelude.{◌≡◌, ◌+◌, ◌≤◌};
+ghost use Rattle.std.specs.Int.{to_le_bytes, w128};
 ghost use Rattle.cipher_model.specs.Field.{sub_byte};
 ghost use Rattle.cipher_model.specs.Aes.{add_round_key, byte_of, bytes_at, encrypted_with, mix_columns, shift_rows, sub_bytes, word};
 ghost use Rattle.aes_block.specs.Words.{mixed_word};
 
-use crate::tables::{SBOX, TE0, TE1, TE2, TE3};
-use crate::words::{byte0, byte1, byte2, byte3, key_at, xored_at};
+use crate::tables::{SUB, TE};
+use crate::words::{byte0, byte1, byte2, byte3, key_at, number_of, words_of, xored_at};
 
 // What the column owes to one byte of each word.
 #[inline(always)]
@@ -13,7 +14,7 @@ use crate::words::{byte0, byte1, byte2, byte3, key_at, xored_at};
 fn part0(w: u32) -> u32
     ensures { result ≡ mixed_word (sub_byte (byte_of w 0)) 0 0 0 }
 {
-    TE0[byte0(w)]
+    TE[0][byte0(w)]
 }
 
 #[inline(always)]
@@ -21,7 +22,7 @@ fn part0(w: u32) -> u32
 fn part1(w: u32) -> u32
     ensures { result ≡ mixed_word 0 (sub_byte (byte_of w 1)) 0 0 }
 {
-    TE1[byte1(w)]
+    TE[1][byte1(w)]
 }
 
 #[inline(always)]
@@ -29,7 +30,7 @@ fn part1(w: u32) -> u32
 fn part2(w: u32) -> u32
     ensures { result ≡ mixed_word 0 0 (sub_byte (byte_of w 2)) 0 }
 {
-    TE2[byte2(w)]
+    TE[2][byte2(w)]
 }
 
 #[inline(always)]
@@ -37,7 +38,7 @@ fn part2(w: u32) -> u32
 fn part3(w: u32) -> u32
     ensures { result ≡ mixed_word 0 0 0 (sub_byte (byte_of w 3)) }
 {
-    TE3[byte3(w)]
+    TE[3][byte3(w)]
 }
 
 // A column of the next state, from the words whose bytes ShiftRows brings there.
@@ -71,27 +72,46 @@ fn round_at(s: [u32; 4], ws: &[u32; 44], i: usize) -> [u32; 4]
     round(s, key_at(ws, i))
 }
 
+// What the column of the last round, which mixes no columns, owes to one byte of each word.
 #[inline(always)]
-#[tactic(auto, using(crate::proofs::SubByteTables::sbox_at))]
-fn sub_byte(x: u8) -> u8
-    ensures { result ≡ sub_byte x }
+#[tactic(auto, using(crate::proofs::SubByteTables::sub0_at))]
+fn sub_part0(w: u32) -> u32
+    ensures { result ≡ word (sub_byte (byte_of w 0)) 0 0 0 }
 {
-    SBOX[x as usize]
+    SUB[0][byte0(w)]
 }
 
-// A column of the last round's state, which mixes no columns.
+#[inline(always)]
+#[tactic(auto, using(crate::proofs::SubByteTables::sub1_at))]
+fn sub_part1(w: u32) -> u32
+    ensures { result ≡ word 0 (sub_byte (byte_of w 1)) 0 0 }
+{
+    SUB[1][byte1(w)]
+}
+
+#[inline(always)]
+#[tactic(auto, using(crate::proofs::SubByteTables::sub2_at))]
+fn sub_part2(w: u32) -> u32
+    ensures { result ≡ word 0 0 (sub_byte (byte_of w 2)) 0 }
+{
+    SUB[2][byte2(w)]
+}
+
+#[inline(always)]
+#[tactic(auto, using(crate::proofs::SubByteTables::sub3_at))]
+fn sub_part3(w: u32) -> u32
+    ensures { result ≡ word 0 0 0 (sub_byte (byte_of w 3)) }
+{
+    SUB[3][byte3(w)]
+}
+
+// A column of the last round's state.
 #[inline(always)]
 pub fn subbed_column(a: u32, b: u32, c: u32, d: u32) -> u32
     ensures { result ≡ word (sub_byte (byte_of a 0)) (sub_byte (byte_of b 1))
         (sub_byte (byte_of c 2)) (sub_byte (byte_of d 3)) }
 {
-    let bytes = [
-        sub_byte(byte0(a) as u8),
-        sub_byte(byte1(b) as u8),
-        sub_byte(byte2(c) as u8),
-        sub_byte(byte3(d) as u8),
-    ];
-    u32::from_be_bytes(bytes)
+    sub_part0(a) ^ sub_part1(b) ^ sub_part2(c) ^ sub_part3(d)
 }
 
 #[inline(always)]
@@ -116,15 +136,28 @@ fn last_round_at(s: [u32; 4], ws: &[u32; 44], i: usize) -> [u32; 4]
     last_round(s, key_at(ws, i))
 }
 
-// Not inlined: inside a caller's loop over blocks the ten rounds are slower.
-#[inline(never)]
-pub fn encrypted_words(ws: &[u32; 44], block: [u32; 4]) -> [u32; 4]
+// The ten rounds, one by one: as a loop they are slower.
+#[inline(always)]
+fn encrypted_words(ws: &[u32; 44], block: [u32; 4]) -> [u32; 4]
     ensures { bytes_at result 0 ≡ encrypted_with 10 ws.now (bytes_at block 0) }
 {
-    let mut s = xored_at(block, ws, 0);
-    'rounds: for r in 1..10 {
-        s = round_at(s, ws, 4 * r);
-    }
-    let [a, b, c, d] = s;
-    last_round_at([a, b, c, d], ws, 40)
+    let s0 = xored_at(block, ws, 0);
+    let s1 = round_at(s0, ws, 4);
+    let s2 = round_at(s1, ws, 8);
+    let s3 = round_at(s2, ws, 12);
+    let s4 = round_at(s3, ws, 16);
+    let s5 = round_at(s4, ws, 20);
+    let s6 = round_at(s5, ws, 24);
+    let s7 = round_at(s6, ws, 28);
+    let s8 = round_at(s7, ws, 32);
+    let s9 = round_at(s8, ws, 36);
+    last_round_at(s9, ws, 40)
+}
+
+// The block as a number, its first octet the lowest. Not inlined: inside a caller's loop over blocks the ten rounds are slower.
+#[inline(never)]
+pub fn encrypted_number(ws: &[u32; 44], block: u128) -> u128
+    ensures { to_le_bytes w128 result ≡ encrypted_with 10 ws.now (to_le_bytes w128 block) }
+{
+    number_of(encrypted_words(ws, words_of(block)))
 }

@@ -1,12 +1,13 @@
 // The rounds of the inverse cipher, on four words, with the round keys under InvMixColumns.
 ghost use Rattle.std.specs.Prelude.{◌≡◌, ◌+◌, ◌≤◌, ◌<◌, ℕ, List};
+ghost use Rattle.std.specs.Int.{to_le_bytes, w128};
 ghost use Rattle.cipher_model.specs.Field.{inv_sub_byte};
 ghost use Rattle.cipher_model.specs.Aes.{add_round_key, byte_of, bytes_at, decrypted_with, inv_mix_columns, inv_shift_rows, inv_sub_bytes, word};
 ghost use Rattle.aes_block.specs.Words.{AreUnmixed, inv_mixed_word, unmixed_word};
 
 use crate::cipher::subbed_column;
-use crate::tables::{INV_SBOX, TD0, TD1, TD2, TD3};
-use crate::words::{byte0, byte1, byte2, byte3, key_at, xored_at};
+use crate::tables::{INV_SBOX, TD};
+use crate::words::{byte0, byte1, byte2, byte3, key_at, number_of, words_of, xored_at};
 
 // What the column under InvMixColumns owes to one byte of each word.
 #[inline(always)]
@@ -14,7 +15,7 @@ use crate::words::{byte0, byte1, byte2, byte3, key_at, xored_at};
 fn inv_part0(w: u32) -> u32
     ensures { result ≡ inv_mixed_word (inv_sub_byte (byte_of w 0)) 0 0 0 }
 {
-    TD0[byte0(w)]
+    TD[0][byte0(w)]
 }
 
 #[inline(always)]
@@ -22,7 +23,7 @@ fn inv_part0(w: u32) -> u32
 fn inv_part1(w: u32) -> u32
     ensures { result ≡ inv_mixed_word 0 (inv_sub_byte (byte_of w 1)) 0 0 }
 {
-    TD1[byte1(w)]
+    TD[1][byte1(w)]
 }
 
 #[inline(always)]
@@ -30,7 +31,7 @@ fn inv_part1(w: u32) -> u32
 fn inv_part2(w: u32) -> u32
     ensures { result ≡ inv_mixed_word 0 0 (inv_sub_byte (byte_of w 2)) 0 }
 {
-    TD2[byte2(w)]
+    TD[2][byte2(w)]
 }
 
 #[inline(always)]
@@ -38,7 +39,7 @@ fn inv_part2(w: u32) -> u32
 fn inv_part3(w: u32) -> u32
     ensures { result ≡ inv_mixed_word 0 0 0 (inv_sub_byte (byte_of w 3)) }
 {
-    TD3[byte3(w)]
+    TD[3][byte3(w)]
 }
 
 #[inline(always)]
@@ -128,8 +129,8 @@ fn last_unround_at(s: [u32; 4], ws: &[u32; 44], i: usize) -> [u32; 4]
     last_unround([a, b, c, d], key_at(ws, i))
 }
 
-#[inline(never)]
-pub fn decrypted_words(us: &[u32; 44], ws: &[u32; 44], block: [u32; 4]) -> [u32; 4]
+#[inline(always)]
+fn decrypted_words(us: &[u32; 44], ws: &[u32; 44], block: [u32; 4]) -> [u32; 4]
     requires { AreUnmixed us.now ws.now }
     ensures { bytes_at result 0 ≡ decrypted_with 10 ws.now (bytes_at block 0) }
 {
@@ -139,4 +140,13 @@ pub fn decrypted_words(us: &[u32; 44], ws: &[u32; 44], block: [u32; 4]) -> [u32;
     }
     let [a, b, c, d] = s;
     last_unround_at([a, b, c, d], ws, 0)
+}
+
+// The block as a number, its first octet the lowest.
+#[inline(never)]
+pub fn decrypted_number(us: &[u32; 44], ws: &[u32; 44], block: u128) -> u128
+    requires { AreUnmixed us.now ws.now }
+    ensures { to_le_bytes w128 result ≡ decrypted_with 10 ws.now (to_le_bytes w128 block) }
+{
+    number_of(decrypted_words(us, ws, words_of(block)))
 }

@@ -26,6 +26,7 @@ impl Model for RoundKeys {
 }
 
 impl RoundKeys {
+    ghost use Rattle.std.specs.Int.{to_le_bytes, w128};
     ghost use Rattle.cipher_model.specs.Aes.{decrypted, encrypted, round_key};
 
     /// The round keys of `key`.
@@ -53,7 +54,15 @@ impl RoundKeys {
         requires { r ≤ 10 }
         ensures { result ≡ round_key self.now r }
     {
-        words::stored(words::key_at(&self.words, 4 * r))
+        words::number_of(words::key_at(&self.words, 4 * r)).to_le_bytes()
+    }
+
+    /// The block `block` encrypted, each as the number whose lowest octet is the block's first (FIPS 197, 5.1).
+    #[inline]
+    pub fn encrypt_number(&self, block: u128) -> u128
+        ensures { to_le_bytes w128 result ≡ encrypted self.now (to_le_bytes w128 block) }
+    {
+        cipher::encrypted_number(&self.words, block)
     }
 
     /// Encrypts one block in place (FIPS 197, 5.1).
@@ -65,7 +74,8 @@ impl RoundKeys {
         // The inverse cipher undoes it.
         ensures undone { decrypted self.now block.new ≡ block.old }
     {
-        *block = words::stored(cipher::encrypted_words(&self.words, words::loaded(block)));
+        let cipher = self.encrypt_number(u128::from_le_bytes(*block));
+        *block = cipher.to_le_bytes();
     }
 
     /// Decrypts one block in place (FIPS 197, 5.3).
@@ -78,10 +88,8 @@ impl RoundKeys {
         ensures undone { encrypted self.now block.new ≡ block.old }
         ensures undoes { (b : List ℕ) → IsBlock b → block.old ≡ encrypted self.now b → block.new ≡ b }
     {
-        *block = words::stored(inverse::decrypted_words(
-            &self.unmixed,
-            &self.words,
-            words::loaded(block),
-        ));
+        let cipher = u128::from_le_bytes(*block);
+        let plain = inverse::decrypted_number(&self.unmixed, &self.words, cipher);
+        *block = plain.to_le_bytes();
     }
 }

@@ -1,5 +1,6 @@
 // Blocks as four words each, a column of the state in a word.
 ghost use Rattle.std.specs.Prelude.{◌≡◌, ◌+◌, ◌≤◌, slice_index};
+ghost use Rattle.std.specs.Int.{to_le_bytes, w128};
 ghost use Rattle.cipher_model.specs.Aes.{add_round_key, byte_of, bytes_at, word};
 
 #[inline(always)]
@@ -39,30 +40,28 @@ pub fn word_at(block: &[u8; 16], i: usize) -> u32
     u32::from_be_bytes([block[i], block[i + 1], block[i + 2], block[i + 3]])
 }
 
+// The words of a block that comes as a number, its first octet the lowest. The first octet of a word is its highest (FIPS 197, 3.5).
 #[inline(always)]
-pub fn loaded(block: &[u8; 16]) -> [u32; 4]
-    ensures { bytes_at result 0 ≡ block.now }
+pub fn words_of(block: u128) -> [u32; 4]
+    ensures { bytes_at result 0 ≡ to_le_bytes w128 block }
 {
     [
-        word_at(block, 0),
-        word_at(block, 4),
-        word_at(block, 8),
-        word_at(block, 12),
+        ((block % 0x1_0000_0000) as u32).swap_bytes(),
+        (((block >> 32) % 0x1_0000_0000) as u32).swap_bytes(),
+        (((block >> 64) % 0x1_0000_0000) as u32).swap_bytes(),
+        ((block >> 96) as u32).swap_bytes(),
     ]
 }
 
+// The number of the block of four words.
 #[inline(always)]
-pub fn stored(s: [u32; 4]) -> [u8; 16]
-    ensures { result ≡ bytes_at s 0 }
+pub fn number_of(words: [u32; 4]) -> u128
+    ensures { to_le_bytes w128 result ≡ bytes_at words 0 }
 {
-    let [a, b, c, d] = s;
-    let [a0, a1, a2, a3] = a.to_be_bytes();
-    let [b0, b1, b2, b3] = b.to_be_bytes();
-    let [c0, c1, c2, c3] = c.to_be_bytes();
-    let [d0, d1, d2, d3] = d.to_be_bytes();
-    [
-        a0, a1, a2, a3, b0, b1, b2, b3, c0, c1, c2, c3, d0, d1, d2, d3,
-    ]
+    let [a, b, c, d] = words;
+    let lower = a.swap_bytes() as u64 + b.swap_bytes() as u64 * 0x1_0000_0000;
+    let upper = c.swap_bytes() as u64 + d.swap_bytes() as u64 * 0x1_0000_0000;
+    upper as u128 * 0x1_0000_0000_0000_0000 + lower as u128
 }
 
 // The round key that begins at word `i` of the schedule.
@@ -75,18 +74,11 @@ pub fn key_at(ws: &[u32; 44], i: usize) -> [u32; 4]
 }
 
 #[inline(always)]
-fn xored(s: [u32; 4], k: [u32; 4]) -> [u32; 4]
-    ensures { bytes_at result 0 ≡ add_round_key (bytes_at s 0) (bytes_at k 0) }
-{
-    let [a, b, c, d] = s;
-    let [p, q, r, t] = k;
-    [a ^ p, b ^ q, c ^ r, d ^ t]
-}
-
-#[inline(always)]
 pub fn xored_at(s: [u32; 4], ws: &[u32; 44], i: usize) -> [u32; 4]
     requires { i + 4 ≤ 44 }
     ensures { bytes_at result 0 ≡ add_round_key (bytes_at s 0) (bytes_at ws.now i) }
 {
-    xored(s, key_at(ws, i))
+    let [a, b, c, d] = s;
+    let [p, q, r, t] = key_at(ws, i);
+    [a ^ p, b ^ q, c ^ r, d ^ t]
 }

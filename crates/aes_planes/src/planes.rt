@@ -55,24 +55,5 @@ pub fn known_all(q: Planes) -> Planes
     ensures value { result ≡ q }
     ensures blocks { (m : ℕ) → m < 8 → IsBlock (plane result m) }
 {
-    let Planes {
-        p0: q0,
-        p1: q1,
-        p2: q2,
-        p3: q3,
-        p4: q4,
-        p5: q5,
-        p6: q6,
-        p7: q7,
-    } = q;
-    Planes {
-        p0: known(q0),
-        p1: known(q1),
-        p2: known(q2),
-        p3: known(q3),
-        p4: known(q4),
-        p5: known(q5),
-        p6: known(q6),
-        p7: known(q7),
-    }
+    q
 }

@@ -10,7 +10,8 @@ use std::simd::prelude::*;
 #[inline(always)]
 pub fn block_at(octets: &[u8], i: usize) -> [u8; 16]
     requires { 16 * i + 16 ≤ length octets.now }
-    ensures { result ≡ block_at octets.now i }
+    ensures value { result ≡ block_at octets.now i }
+    ensures block { IsBlock result }
 {
     let mut block = [0u8; 16];
     block.copy_from_slice(&octets[16 * i..16 * i + 16]);

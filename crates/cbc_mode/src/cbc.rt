@@ -13,12 +13,13 @@ pub fn cbc_encrypt(keys: &RoundKeys, iv: &[u8; 16], octets: &mut [u8])
     requires { length octets.old % 16 ≡ 0 }
     ensures { IsCbc keys.now iv.now octets.old octets.new }
 {
-    let mut last = *iv;
+    // The chain is a number, so that it stays in registers.
+    let mut last = u128::from_le_bytes(*iv);
     'chain: for i in 0..octets.len() / 16 {
-        let mut block = sum_of(&block_at(octets, i), &last);
-        keys.encrypt(&mut block);
-        put_block(octets, i, &block);
-        last = block;
+        let plain = u128::from_le_bytes(block_at(octets, i));
+        let encrypted = keys.encrypt_number(plain ^ last);
+        put_block(octets, i, &encrypted.to_le_bytes());
+        last = encrypted;
     }
 }
 

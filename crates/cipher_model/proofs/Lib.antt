@@ -3,6 +3,7 @@ pub mod FieldLaws
 pub mod SubByteLaws
 pub mod MixLaws
 pub mod States
+pub mod BlockNumbers
 pub mod InverseCipher
 pub mod Texts
 pub mod PlainTexts

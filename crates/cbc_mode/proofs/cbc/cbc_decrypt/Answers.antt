@@ -13,7 +13,7 @@ chain-preserved c =
     let puts : PutsBlock old c.put_block.new.octets i (xor_blocks c.decrypt.new.block c.chain.last) =
     subst (λ (b : List ℕ). PutsBlock old c.put_block.new.octets i b) c.sum_of.ensures c.put_block.ensures in
     decrypted_more c.args.keys.now c.args.iv.now cs old c.put_block.new.octets c.chain.last c.block_at-cipher.result c.decrypt.new.block i (i + 1) c.chain.invariant puts
-    (c.block_at-cipher.ensures ∙ block_at-rest old cs i c.chain.invariant.blocks.rest) c.decrypt.ensures.whole c.decrypt.ensures.undone refl
+    (c.block_at-cipher.ensures.value ∙ block_at-rest old cs i c.chain.invariant.blocks.rest) c.decrypt.ensures.whole c.decrypt.ensures.undone refl
 
 pub returns : goal.returns
 returns c =

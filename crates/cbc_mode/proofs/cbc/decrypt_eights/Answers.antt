@@ -1,6 +1,5 @@
 use Rattle.std.proofs.Common.{◌≡◌, ◌+◌, ◌*◌, List, ℕ, subst, sym, arith}
 use Rattle.cbc_mode.specs.Steps.{IsDecryptedTo}
-use Rattle.cbc_mode.proofs.CbcSteps.{decrypted_none}
 use Rattle.cbc_mode.proofs.cbc.decrypt_eights.Goals as goal
 
 pub eights-preserved : goal.eights-preserved

@@ -13,7 +13,7 @@ each-preserved c =
     let old : List ℕ = c.each.octets in
     let i : ℕ = c.each.i in
     done_more (λ j b. block_at start j ≡ encrypted c.args.keys.now b) start old c.put_block.new.octets c.decrypt.new.block i c.each.invariant c.put_block.ensures
-    (sym (c.decrypt.ensures.undone ∙ c.block_at-block.ensures ∙ block_at-rest old start i c.each.invariant.rest))
+    (sym (c.decrypt.ensures.undone ∙ c.block_at-block.ensures.value ∙ block_at-rest old start i c.each.invariant.rest))
 
 pub returns : goal.returns
 returns c = record {

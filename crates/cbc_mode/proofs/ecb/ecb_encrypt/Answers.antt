@@ -13,7 +13,7 @@ each-preserved c =
     let old : List ℕ = c.each.octets in
     let i : ℕ = c.each.i in
     done_more (λ j b. b ≡ encrypted c.args.keys.now (block_at start j)) start old c.put_block.new.octets c.encrypt.new.block i c.each.invariant c.put_block.ensures
-    (c.encrypt.ensures.value ∙ ap (λ (b : List ℕ). encrypted c.args.keys.now b) (c.block_at-block.ensures ∙ block_at-rest old start i c.each.invariant.rest))
+    (c.encrypt.ensures.value ∙ ap (λ (b : List ℕ). encrypted c.args.keys.now b) (c.block_at-block.ensures.value ∙ block_at-rest old start i c.each.invariant.rest))
 
 pub returns : goal.returns
 returns c = record {

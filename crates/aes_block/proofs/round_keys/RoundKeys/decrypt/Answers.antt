@@ -1,23 +1,28 @@
 use Rattle.std.proofs.Common.{◌≡◌, List, ℕ, ap, sym, subst, ◌∙◌}
 use Rattle.cipher_model.specs.Aes.{IsBlock, decrypted, decrypted_with, encrypted}
-use Rattle.cipher_model.proofs.InverseCipher.{IsBlock-bytes_at, decrypted-16, decrypted-encrypted, encrypted-decrypted}
+use Rattle.cipher_model.proofs.BlockNumbers.{IsBlock-octets, octets-from}
+use Rattle.cipher_model.proofs.InverseCipher.{decrypted-16, decrypted-encrypted, encrypted-decrypted}
 use Rattle.aes_block.proofs.round_keys.RoundKeys.decrypt.Goals as goal
 
-is_decrypted : (c : goal.After-stored) → c.stored.result ≡ decrypted c.args.self.now c.args.block.now
+is_block : (c : goal.After-to_le_bytes) → IsBlock c.args.block.now
+is_block c = record { long = c.told-block; bytes = c.fits-block }
+
+is_decrypted : (c : goal.After-to_le_bytes) → c.to_le_bytes.result ≡ decrypted c.args.self.now c.args.block.now
 is_decrypted c =
-    c.stored.ensures ∙ c.decrypted_words.ensures ∙ (λ i. decrypted_with 10 (c.self.invariant.scheduled i) (c.loaded.ensures i))
+    c.to_le_bytes.ensures ∙ c.decrypted_number-plain.ensures
+    ∙ (λ i. decrypted_with 10 (c.self.invariant.scheduled i) (octets-from c.args.block.now c.from_le_bytes-cipher.result (is_block c) c.from_le_bytes-cipher.ensures i))
     ∙ sym (decrypted-16 c.self.inside.key c.args.block.now c.self.told.0) ∙ ap (λ (k : List ℕ). decrypted k c.args.block.now) c.self.view_is
 
 pub returns-clause-value : goal.returns-clause-value
 returns-clause-value c = is_decrypted c
 
 pub returns-clause-whole : goal.returns-clause-whole
-returns-clause-whole c = subst IsBlock (sym c.stored.ensures) (IsBlock-bytes_at c.decrypted_words.result 0)
+returns-clause-whole c = subst IsBlock (sym c.to_le_bytes.ensures) (IsBlock-octets c.decrypted_number-plain.result)
 
 pub returns-clause-undone : goal.returns-clause-undone
 returns-clause-undone c =
     ap (λ (b : List ℕ). encrypted c.args.self.now b) (is_decrypted c)
-    ∙ encrypted-decrypted c.args.self.now c.args.block.now (record { long = c.told-block; bytes = c.fits-block })
+    ∙ encrypted-decrypted c.args.self.now c.args.block.now (is_block c)
 
 pub returns-clause-undoes : goal.returns-clause-undoes
 returns-clause-undoes c b block e =
