@@ -1,10 +1,10 @@
 -- The reading of metadata, once its fields before the packets are known to be right or wrong.
-use Rattle.std.proofs.Common.{◌≡◌, ℕ, ◌-◌, List, ◌++◌, length, replicate, Option, Some, None, Result, Ok, Err, refl, ap, ◌∙◌, append_assoc, arith}
+use Rattle.std.proofs.Common.{◌≡◌, ℕ, ◌-◌, List, ◌++◌, length, replicate, Some, None, Result, Ok, Err, refl, ap, ◌∙◌, append_assoc, arith}
 use Rattle.packet_model.specs.declared.cause.BadCause.{BadCause}
-use Rattle.packet_model.specs.declared.place.MetaPlace.{MetaPlace}
-use Rattle.packet_model.specs.declared.place.MetaPlace.TheVariants.{Header}
+use Rattle.lower_model.specs.declared.meta_place.MetaPlace.{MetaPlace}
+use Rattle.lower_model.specs.declared.meta_place.MetaPlace.TheVariants.{Header}
 use Rattle.packet_model.specs.PacketSet.{◌>>=◌, WrappedKey, key_at}
-use Rattle.packet_model.specs.Metadata.{FileHeader, NewHeader, fixed_part, new_pair, new_metadata, fields_fault, packets_in, sized, header_at}
+use Rattle.packet_model.specs.Metadata.{NewHeader, fixed_part, new_pair, new_metadata, fields_fault, packets_in, sized, header_at}
 use Rattle.packet_set.specs.declared.error.SetError.{SetError}
 use Rattle.packet_set.specs.declared.error.SetError.TheVariants as set_errors
 use Rattle.packet_set.specs.Gives.{Fails}

@@ -3,12 +3,16 @@
 #![tactic(auto)]
 
 mod fields;
+mod law;
+#[cfg(test)]
+mod linux_header;
 mod meta;
 mod reading;
 #[cfg(test)]
 mod tests;
 mod writing;
 
+pub use law::{new_metadata_is_read_again, new_size_is_read_again};
 pub use meta::{HeaderError, Meta, NewMeta};
 pub use packet_model::{BadCause, MAX_SIZE, MetaPlace};
 pub use reading::read_header;

@@ -4,6 +4,7 @@ ghost use Rattle.file_header.specs.Gives.{error_of};
 use packet_model::{BadCause, MetaPlace};
 use packet_set::SetError;
 use secret_key::Fek;
+use thiserror::Error;
 
 /// The metadata of a file. Its file key has to be spent.
 pub struct Meta {
@@ -37,11 +38,13 @@ pub struct NewMeta {
 }
 
 /// Why metadata wasn't read.
-#[derive(Clone, Copy, Debug, PartialEq, Eq)]
+#[derive(Clone, Copy, Debug, PartialEq, Eq, Error)]
 pub enum HeaderError {
     /// The file is bad for this cause.
+    #[error("the file is bad: {0:?}")]
     Bad(BadCause),
     /// Memory ran out.
+    #[error("out of memory")]
     Memory,
 }
 

@@ -1,13 +1,15 @@
 use crate::{
-    BadCause, HeaderError, Meta, MetaPlace, NewMeta, read_header, write_header, write_size,
+    BadCause, HeaderError, Meta, MetaPlace, NewMeta, new_metadata_is_read_again,
+    new_size_is_read_again, read_header, write_header, write_size,
 };
 use packet_set::Ring;
 use secret_key::Kek;
 use std::test::Fail;
 
-struct OwnRing {
-    signature: [u8; 8],
-    kek: Kek,
+/// A ring of one key.
+pub struct OwnRing {
+    pub signature: [u8; 8],
+    pub kek: Kek,
 }
 
 impl Ring for OwnRing {
@@ -62,19 +64,16 @@ fn tool_header() -> [u8; 81] {
     octets
 }
 
-// The size, the flags, the size of the metadata and the file key, or why there are none.
-fn outcome(
+/// The size, the flags, the size of the metadata and the file key.
+pub type Opened = (u64, u32, u64, [u8; 16]);
+
+/// What is read of some octets, or why nothing is. The ring's key is spent.
+pub fn opened(
     rt: &HostRuntime,
     octets: &[u8],
     form: MetaPlace,
-    signature: [u8; 8],
-) -> Result<(u64, u32, u64, [u8; 16]), HeaderError> {
-    let mut key = [0; 64];
-    key[..16].copy_from_slice(&[0, 1, 2, 3, 4, 5, 6, 7, 8, 9, 10, 11, 12, 13, 14, 15]);
-    let ring = OwnRing {
-        signature,
-        kek: Kek::new(key),
-    };
+    ring: OwnRing,
+) -> Result<Opened, HeaderError> {
     let read = read_header(rt.alloc(), octets, form, &ring);
     let OwnRing { signature: _, kek } = ring;
     kek.spend();
@@ -87,6 +86,22 @@ fn outcome(
     let key = *fek.octets();
     fek.spend();
     Ok((size, flags, meta_size, key))
+}
+
+// By the key of FIPS 197, C.1, and zeros.
+fn outcome(
+    rt: &HostRuntime,
+    octets: &[u8],
+    form: MetaPlace,
+    signature: [u8; 8],
+) -> Result<Opened, HeaderError> {
+    let mut key = [0; 64];
+    key[..16].copy_from_slice(&[0, 1, 2, 3, 4, 5, 6, 7, 8, 9, 10, 11, 12, 13, 14, 15]);
+    let ring = OwnRing {
+        signature,
+        kek: Kek::new(key),
+    };
+    opened(rt, octets, form, ring)
 }
 
 // The block of FIPS 197, C.1.
@@ -169,4 +184,10 @@ fn writes_a_header(rt: HostRuntime) -> Result<(), Fail> {
         Ok((5, 2, 8192, KEY))
     );
     Ok(())
+}
+
+#[test]
+fn has_laws() {
+    new_metadata_is_read_again();
+    new_size_is_read_again();
 }

@@ -1,5 +1,5 @@
 -- What a lower tree is: nodes in preorder, numbered from the root on, the entries of each directory in octet order of their names.
-use Rattle.std.specs.Prelude.{ℕ, ◌≡◌, ◌<◌, ◌≤◌, ◌+◌, ◌^◌, Bool, IsTrue, List, [], ◌∷◌, ◌++◌, length, take, slice_get, Option, Some, None, IfSome, ◌==◌}
+use Rattle.std.specs.Prelude.{ℕ, ◌≡◌, ◌<◌, ◌≤◌, ◌+◌, ◌^◌, Bool, IsTrue, List, [], ◌∷◌, ◌++◌, length, take, slice_get, Option, None, IfSome, ◌==◌}
 use Rattle.std.specs.Ordering.{nat_cmp, is_lt}
 use Rattle.std.specs.Cmp.Lexicographic.{slice_cmp}
 use Rattle.std.specs.List.{position_or_len}

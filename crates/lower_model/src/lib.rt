@@ -3,12 +3,14 @@
 
 mod items;
 mod kind;
+mod meta_place;
 mod name;
 mod node;
 mod tree;
 
 pub use items::Items;
 pub use kind::Kind;
+pub use meta_place::MetaPlace;
 pub use name::{comes_before, is_name};
 pub use node::{LowerNode, OpenDir};
 pub use tree::LowerTree;

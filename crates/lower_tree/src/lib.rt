@@ -1,4 +1,5 @@
-//! Lower trees, as the crates above know them.
+//! Lower trees and the causes of bad files, as the crates above know them.
 #![tactic(auto)]
 
 pub use lower_model::{Items, Kind, LowerNode, LowerTree, OpenDir, comes_before, is_name};
+pub use packet_model::{BadCause, MAX_SIZE, MetaPlace};

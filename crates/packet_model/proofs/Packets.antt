@@ -1,6 +1,6 @@
 -- A packet that is read is the one that was written, and what was written is read again.
 use Rattle.std.proofs.Common.{◌≡◌, ℕ, suc, ◌+◌, ◌-◌, ◌<◌, ◌≤◌, Bool, true, false, cond, eqb, leb, List, [], ◌∷◌, ◌++◌, length, take, drop, get_or, Option, Some, None, Result, Ok, Err, refl, sym, ap, subst, ◌∙◌, append_assoc, drop-cons, arith}
-use Rattle.std.specs.Prelude.{◌&&◌, slice_index, slice_range}
+use Rattle.std.specs.Prelude.{slice_index}
 use Rattle.std.proofs.lemmas.Bool.{eqb-true, eq-eqb, leb-true, le-leb, and_parts}
 use Rattle.std.proofs.lemmas.List.{take_at, drop_at, get_or_at, append_cancel_left, take-append-drop, drop-drop, length-append, length-take, length-drop}
 use Rattle.lower_model.specs.Octets.{AreOctets}

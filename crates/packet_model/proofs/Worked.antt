@@ -1,10 +1,10 @@
 -- Worked values of lengths, packets, sets of pairs and headers.
-use Rattle.std.proofs.Common.{◌≡◌, ℕ, ◌++◌, List, [], ◌∷◌, take, Some, None, Ok, Err, refl, replicate}
+use Rattle.std.proofs.Common.{◌≡◌, ℕ, ◌++◌, List, [], ◌∷◌, take, Some, None, Ok, Err, refl}
 use Rattle.packet_model.specs.declared.length.LengthFault.TheVariants.{Cut, First}
 use Rattle.packet_model.specs.declared.cause.BadCause.TheVariants as causes
 use Rattle.packet_model.specs.declared.packet.Tag3.{Tag3}
 use Rattle.packet_model.specs.declared.packet.Tag11.{Tag11}
-use Rattle.packet_model.specs.declared.place.MetaPlace.TheVariants.{Header, Attribute}
+use Rattle.lower_model.specs.declared.meta_place.MetaPlace.TheVariants.{Header, Attribute}
 use Rattle.packet_model.specs.Length.{length_octets, length_at}
 use Rattle.packet_model.specs.Spelling.{tag3, tag11, console}
 use Rattle.packet_model.specs.Reading.{content_at, tag3_at, tag11_at}

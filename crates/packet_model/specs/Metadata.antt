@@ -1,13 +1,11 @@
 -- The metadata of a file, by its body and its attribute, with the causes of a bad file in their order.
-use Rattle.std.specs.Prelude.{ℕ, ◌+◌, ◌-◌, ◌*◌, ◌/◌, ◌%◌, ◌^◌, Bool, true, false, not, List, [], ◌∷◌, ◌++◌, length, take, drop, slice_index, slice_range, replicate, Option, Some, None, Result, Ok, Err, nat_lt, nat_le, ◌==◌, ◌&&◌, if◌then◌else◌, bit_and, bit_xor}
+use Rattle.std.specs.Prelude.{ℕ, ◌+◌, ◌-◌, ◌*◌, ◌/◌, ◌%◌, ◌^◌, Bool, true, not, List, [], ◌∷◌, ◌++◌, length, take, slice_index, slice_range, replicate, Option, Some, None, Result, Ok, Err, nat_lt, nat_le, ◌==◌, ◌&&◌, if◌then◌else◌, bit_and, bit_xor}
 use Rattle.std.specs.Int.{w16, w32, w64, from_be_bytes, to_be_bytes}
 use Rattle.packet_model.specs.declared.cause.BadCause.{BadCause}
 use Rattle.packet_model.specs.declared.cause.BadCause.TheVariants.{Short, Marker, Version, Hmac, NotEncrypted, HeaderSize, TooLarge, ShortData}
 use Rattle.packet_model.specs.declared.cause.TheConstants.{MAX_SIZE}
-use Rattle.packet_model.specs.declared.place.MetaPlace.{MetaPlace}
-use Rattle.packet_model.specs.declared.place.MetaPlace.TheVariants.{Header, Attribute}
-use Rattle.packet_model.specs.declared.packet.Tag3.{Tag3}
-use Rattle.packet_model.specs.declared.packet.Tag11.{Tag11}
+use Rattle.lower_model.specs.declared.meta_place.MetaPlace.{MetaPlace}
+use Rattle.lower_model.specs.declared.meta_place.MetaPlace.TheVariants.{Header, Attribute}
 use Rattle.packet_model.specs.Spelling.{tag3, tag11, console}
 use Rattle.packet_model.specs.PacketSet.{◌>>=◌, WrappedKey, key_at}
 
@@ -95,9 +93,13 @@ abbrev pub data_start : MetaPlace → FileHeader → ℕ
 data_start Header header = header.meta_size
 data_start Attribute header = 0
 
--- the octets of a body with its extents of 4,096 octets, the last of them whole
-abbrev pub needed : MetaPlace → FileHeader → ℕ
-needed place header = data_start place header + 4096 * ((header.size + 4095) / 4096)
+-- the extents of 4,096 octets of a content, the last of them whole
+abbrev pub extent_count : ℕ → ℕ
+extent_count size = (size + 4095) / 4096
+
+-- the octets of a body whose extents begin here
+abbrev pub needed : ℕ → FileHeader → ℕ
+needed start header = start + 4096 * extent_count header.size
 
 pub data Metadata : Type 0 where
   Empty : Metadata
@@ -106,7 +108,8 @@ pub data Metadata : Type 0 where
 
 abbrev pub with_body : MetaPlace → List ℕ → Result FileHeader BadCause → Metadata
 with_body place body (Err cause) = Bad cause
-with_body place body (Ok header) = if nat_lt (length body) (needed place header) then Bad (ShortData (length body) (needed place header)) else Good place header
+with_body place body (Ok header) =
+    if nat_lt (length body) (needed (data_start place header) header) then Bad (ShortData (length body) (needed (data_start place header) header)) else Good place header
 
 -- where a file has the attribute, that alone is read
 abbrev pub metadata : List (List ℕ) → List ℕ → Option (List ℕ) → Metadata

@@ -5,9 +5,8 @@
 mod cause;
 mod length;
 mod packet;
-mod place;
 
 pub use cause::{BadCause, MAX_SIZE};
 pub use length::LengthFault;
+pub use lower_model::MetaPlace;
 pub use packet::{PacketError, Pair, Tag3, Tag11};
-pub use place::MetaPlace;

@@ -3,6 +3,7 @@ ghost use Rattle.packet_model.specs.declared.packet.PacketError.TheVariants.{Mem
 
 use lower_model::Items;
 use std::alloc::AllocError;
+use thiserror::Error;
 
 /// The content of a tag 3 packet (RFC 2440, 5.3): a wrapped file key.
 #[derive(Drop)]
@@ -34,11 +35,13 @@ pub struct Pair {
 }
 
 /// Why a packet wasn't read.
-#[derive(Clone, Copy, Debug, PartialEq, Eq)]
+#[derive(Clone, Copy, Debug, PartialEq, Eq, Error)]
 pub enum PacketError {
     /// No such packet stands at the front.
+    #[error("no such packet stands at the front")]
     Bad,
     /// Memory ran out.
+    #[error("out of memory")]
     Memory,
 }
 

@@ -1,9 +1,9 @@
 -- The key of a set, by its first pair and what is kept of the others.
-use Rattle.std.proofs.Common.{◌≡◌, ℕ, ◌+◌, true, List, [], ◌∷◌, drop, Option, Some, None, Result, Ok, Err, refl, sym, ap, subst, cond, ◌∙◌}
+use Rattle.std.proofs.Common.{◌≡◌, ℕ, ◌+◌, true, List, ◌∷◌, drop, Option, None, Result, Ok, Err, refl, sym, ap, ◌∙◌}
 use Rattle.lower_model.specs.Octets.{AreOctets}
 use Rattle.packet_model.specs.declared.cause.BadCause.{BadCause}
 use Rattle.packet_model.specs.declared.packet.Pair.{Pair}
-use Rattle.packet_model.specs.PacketSet.{◌>>=◌, WrappedKey, begins_pair, pair_at, pairs_from, set_place, key_among, key_at, key_if_found, first_or_none}
+use Rattle.packet_model.specs.PacketSet.{◌>>=◌, begins_pair, pair_at, pairs_from, set_place, key_among, key_at, key_if_found, first_or_none}
 use Rattle.packet_model.proofs.Sets.{ok}
 use Rattle.packet_model.proofs.Steps as steps
 use Rattle.packet_set.specs.declared.error.SetError.{SetError}

@@ -1,5 +1,5 @@
 -- Reading the pairs of a set one behind another, as a loop does.
-use Rattle.std.proofs.Common.{◌≡◌, ℕ, ◌+◌, Bool, true, false, cond, List, [], ◌∷◌, length, drop, Option, Some, None, Result, Ok, Err, refl, sym, ap, ◌∙◌}
+use Rattle.std.proofs.Common.{◌≡◌, ℕ, ◌+◌, Bool, true, false, cond, List, [], ◌∷◌, drop, Option, Some, None, Result, Ok, Err, refl, sym, ap, ◌∙◌}
 use Rattle.std.specs.List.{find}
 use Rattle.lower_model.specs.Octets.{AreOctets}
 use Rattle.packet_model.specs.declared.cause.BadCause.{BadCause}

@@ -3,6 +3,7 @@
 
 mod error;
 mod find;
+mod law;
 mod loops;
 mod pair;
 mod ring;
@@ -11,4 +12,5 @@ mod tests;
 
 pub use error::SetError;
 pub use find::{Found, find_key};
+pub use law::sets_are_read_as_spelled;
 pub use ring::Ring;

@@ -126,3 +126,8 @@ fn refuses_other_sets(rt: HostRuntime) -> Result<(), Fail> {
     );
     Ok(())
 }
+
+#[test]
+fn has_a_law() {
+    crate::sets_are_read_as_spelled();
+}

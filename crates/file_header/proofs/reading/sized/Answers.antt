@@ -1,11 +1,12 @@
 use Rattle.std.proofs.Common.{◌≡◌, ◌≤◌, false, ltb, refl, subst}
 use Rattle.std.proofs.lemmas.Bool.{le-ltb}
+use Rattle.packet_model.specs.declared.cause.TheConstants.{MAX_SIZE}
 use Rattle.packet_model.specs.Metadata.{size_in, header_fields}
 use Rattle.file_header.proofs.reading.sized.Goals as goal
 
 pub returns : goal.returns
 returns c = λ kek key wraps.
     let octets = c.args.octets.now in
-    let most : size_in octets ≤ 67108864 = subst (λ n. n ≤ 67108864) c.size_of-size.ensures c.if-size-gt-MAX_SIZE.false in
-    let test : ltb 67108864 (size_in octets) ≡ false = le-ltb 67108864 (size_in octets) most in
+    let most : size_in octets ≤ MAX_SIZE = subst (λ n. n ≤ MAX_SIZE) c.size_of-size.ensures c.if-size-gt-MAX_SIZE.false in
+    let test : ltb MAX_SIZE (size_in octets) ≡ false = le-ltb MAX_SIZE (size_in octets) most in
     (header_fields octets key, rw test refl, record { size = c.size_of-size.ensures; flags = c.flags_of.ensures; meta_size = c.meta_size_of.ensures; fek = wraps })

@@ -1,7 +1,7 @@
 /// Where a file has its metadata.
 #[derive(Clone, Copy, Debug, PartialEq, Eq)]
 pub enum MetaPlace {
-    /// At the head of its body.
+    /// In the first octets of its body.
     Header,
     /// In the attribute `user.ecryptfs`.
     Attribute,
