@@ -1,17 +1,16 @@
 -- Fields in a row and paths are read as they are spelled.
-use Rattle.std.proofs.Common.{◌≡◌, ℕ, ◌<◌, Bool, true, false, cond, List, [], ◌∷◌, ◌++◌, length, map, Option, Some, None, refl, sym, ap, subst, ◌∙◌, eq-eqb, arith, inl, inr}
+use Rattle.std.proofs.Common.{◌≡◌, ℕ, ◌<◌, Bool, true, false, cond, List, [], ◌∷◌, ◌++◌, length, map, Option, Some, refl, sym, ap, subst, ◌∙◌, eq-eqb, arith, inl, inr}
 use Rattle.std.specs.Prelude.{not, ◌==◌}
 use Rattle.std.specs.List.{list_all, slice_split, join_with_byte, flat_map, AllByRecursion}
-use Rattle.std.specs.Option.{option_map}
 use Rattle.std.proofs.lemmas.Bool.{eqb-true, ne_eqb, cases_Bool}
 use Rattle.std.proofs.lemmas.Bool.Decides.{nat_tests}
 use Rattle.std.proofs.lemmas.List.{append-nil, nil_from_length, length-append, length-map}
 use Rattle.std.proofs.lemmas.List.Splits.{join_with_byte-slice_split, length-slice_split, slice_split_at, slice_split_none}
 use Rattle.std.proofs.lemmas.Option.{none-some, same_Some}
-use Rattle.tree_model.specs.declared.path.Path.{Path}
+use Rattle.tree_model.specs.Path.{IsPath}
 use Rattle.lower_model.specs.Name.{is_name}
 use Rattle.text_model.specs.Line.{is_plain, name, slash_name, path}
-use Rattle.line_reader.specs.Fields.{IsName, IsPath, path_text, path_of, each_in, name_in, path_in, ◌>>=◌}
+use Rattle.line_reader.specs.Fields.{IsName, each_in, name_in, path_in, ◌>>=◌}
 use Rattle.line_reader.proofs.Readers.{IsReader, bind_some, unless_some}
 use Rattle.line_reader.proofs.Words.{is_word, is_other, is_absent, weaker}
 use Rattle.line_reader.proofs.Cutting.{is_at}
@@ -107,38 +106,34 @@ not_false : (b : Bool) → not b ≡ false → b ≡ true
 not_false true e = refl
 not_false false e = absurd cc
 
-pub path_reader : IsReader path_in path_text IsPath
+pub path_reader : IsReader path_in path IsPath
 unfolding path_in
 path_reader = record { found = found; again = again }
   where
-    root : (text : List ℕ) (p : Path) → length text ≡ 0 → path_of [] ≡ p → (47 ∷ text ≡ path p.parts) × IsPath p
-    root text p none made = subst (λ (q : Path). (47 ∷ text ≡ path q.parts) × IsPath q) made (ap (λ (t : List ℕ). 47 ∷ t) (nil_from_length text none), tt)
+    root : (text : List ℕ) (names : List (List ℕ)) → length text ≡ 0 → [] ≡ names → (47 ∷ text ≡ path names) × IsPath names
+    root text names none made = subst (λ (ns : List (List ℕ)). (47 ∷ text ≡ path ns) × IsPath ns) made (ap (λ (t : List ℕ). 47 ∷ t) (nil_from_length text none), tt)
 
-    below : (text : List ℕ) (p : Path) (o : Option (List (List ℕ))) → each_in name_in (slice_split (is_at 47) text) ≡ o → option_map path_of o ≡ Some p → (47 ∷ text ≡ path p.parts) × IsPath p
-    below text p None e made = absurd (none-some p made)
-    below text p (Some names) e made =
+    below : (text : List ℕ) (names : List (List ℕ)) → each_in name_in (slice_split (is_at 47) text) ≡ Some names → (47 ∷ text ≡ path names) × IsPath names
+    below text names e =
         let f = names_reader.found text names e in
-        subst (λ (q : Path). (47 ∷ text ≡ path q.parts) × IsPath q) (same_Some (path_of names) p made) (ap (λ (t : List ℕ). 47 ∷ t) f.0 ∙ slashes_of names f.1.some, f.1.each)
+        (ap (λ (t : List ℕ). 47 ∷ t) f.0 ∙ slashes_of names f.1.some, f.1.each)
 
-    behind : (c : ℕ) (text : List ℕ) (p : Path) → c ≡ 47 → (47 ∷ text ≡ path p.parts) × IsPath p → (c ∷ text ≡ path p.parts) × IsPath p
-    behind c text p e h = (ap (λ (k : ℕ). k ∷ text) e ∙ h.0, h.1)
+    behind : (c : ℕ) (text : List ℕ) (names : List (List ℕ)) → c ≡ 47 → (47 ∷ text ≡ path names) × IsPath names → (c ∷ text ≡ path names) × IsPath names
+    behind c text names e h = (ap (λ (k : ℕ). k ∷ text) e ∙ h.0, h.1)
 
-    found : (text : List ℕ) (p : Path) → path_in text ≡ Some p → (text ≡ path p.parts) × IsPath p
-    found [] p e = absurd (none-some p e)
-    found (c ∷ text) p e =
-        let names = each_in name_in (slice_split (is_at 47) text) in
-        let u = unless_some (not (c == 47)) (cond (length text == 0) (Some (path_of [])) (option_map path_of names)) p e in
+    found : (text : List ℕ) (names : List (List ℕ)) → path_in text ≡ Some names → (text ≡ path names) × IsPath names
+    found [] names e = absurd (none-some names e)
+    found (c ∷ text) names e =
+        let below_root = each_in name_in (slice_split (is_at 47) text) in
+        let u = unless_some (not (c == 47)) (cond (length text == 0) (Some []) below_root) names e in
         let slash : c ≡ 47 = eqb-true c 47 (not_false (c == 47) u.0) in
-        behind c text p slash (elim (chosen (length text == 0) (Some (path_of [])) (option_map path_of names) (Some p) u.1) [
-          | inl none ↦ root text p (eqb-true (length text) 0 none.0) (same_Some (path_of []) p none.1)
-          | inr some ↦ below text p names refl some.1
+        behind c text names slash (elim (chosen (length text == 0) (Some []) below_root (Some names) u.1) [
+          | inl none ↦ root text names (eqb-true (length text) 0 none.0) (same_Some [] names none.1)
+          | inr some ↦ below text names some.1
         ])
 
-    again : (p : Path) → IsPath p → path_in (path p.parts) ≡ Some p
-    again p h = by p.parts h
-      where
-        by : (names : List (List ℕ)) → AllByRecursion IsName names → path_in (path names) ≡ Some (path_of names)
-        by [] h = refl
-        by (first ∷ names) h =
-            let text = join_with_byte 47 (map name (first ∷ names)) in
-            ap path_in (sym (slashes first names)) ∙ rw (ne_eqb (length text) 0 (λ none. omega (arith, joined_some first names h.0)), names_reader.again (first ∷ names) (record { some = omega arith; each = h })) refl
+    again : (names : List (List ℕ)) → IsPath names → path_in (path names) ≡ Some names
+    again [] h = refl
+    again (first ∷ names) h =
+        let text = join_with_byte 47 (map name (first ∷ names)) in
+        ap path_in (sym (slashes first names)) ∙ rw (ne_eqb (length text) 0 (λ none. omega (arith, joined_some first names h.0)), names_reader.again (first ∷ names) (record { some = omega arith; each = h })) refl

@@ -1,14 +1,13 @@
 -- How a field of a line is read.
 use Rattle.std.specs.Prelude.{ℕ, ◌≡◌, ◌<◌, ◌+◌, ◌-◌, ◌*◌, ◌^◌, List, [], ◌∷◌, length, take, drop, slice_index, Option, Some, None, Bool, IsTrue, false, not, nat_lt, nat_le, ◌==◌, ◌&&◌, ◌||◌, if◌then◌else◌}
-use Rattle.std.specs.List.{list_all, slice_split, AllByRecursion}
+use Rattle.std.specs.List.{list_all, slice_split}
 use Rattle.std.specs.Char.{is_ascii_digit}
 use Rattle.std.specs.Option.{option_map}
 use Rattle.std.specs.Result.{result_ok}
 use Rattle.hex.specs.Hex.{decode_of, decode_sized}
 use Rattle.lower_model.specs.Octets.{AreOctets}
 use Rattle.lower_model.specs.Name.{is_name}
-use Rattle.text_model.specs.Line.{is_plain, path}
-use Rattle.tree_model.specs.declared.path.Path.{Path}
+use Rattle.text_model.specs.Line.{is_plain}
 
 -- What a reader answers: the value that the text spells, or that it spells none.
 abbrev pub Reads : {A : Type 0} → (A → List ℕ) → (A → Type 0) → List ℕ → Option A → Type 0
@@ -90,12 +89,6 @@ name_in text = octets_in text >>= λ octets. if is_name octets then Some octets 
 
 -- ---- paths
 
-abbrev pub IsPath : Path → Type 0
-IsPath path = AllByRecursion IsName path.parts
-
-abbrev pub path_text : Path → List ℕ
-path_text p = path p.parts
-
 -- the value of each text, where each spells one
 unfoldable pub each_in : {A : Type 0} → (List ℕ → Option A) → List (List ℕ) → Option (List A)
 each_in read [] = Some []
@@ -104,13 +97,10 @@ each_in read (text ∷ texts) = do
   values ← each_in read texts
   Some (value ∷ values)
 
-abbrev pub path_of : List (List ℕ) → Path
-path_of names = record { parts = names }
-
 -- a slash alone, or names with a slash before each
-unfoldable pub path_in : List ℕ → Option Path
+unfoldable pub path_in : List ℕ → Option (List (List ℕ))
 path_in [] = None
 path_in (c ∷ text) =
     if not (c == 47) then None
-    else if length text == 0 then Some (path_of [])
-    else option_map path_of (each_in name_in (slice_split (λ c. c == 47) text))
+    else if length text == 0 then Some []
+    else each_in name_in (slice_split (λ c. c == 47) text)

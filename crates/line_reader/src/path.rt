@@ -1,29 +1,30 @@
 ghost use Rattle.std.specs.Prelude.{◌≡◌, ◌==◌, IfOk};
 ghost use Rattle.std.specs.List.{slice_split};
-ghost use Rattle.line_reader.specs.Fields.{Reads, IsPath, path_text, name_in, each_in, path_in};
+ghost use Rattle.text_model.specs.Line.{path};
+ghost use Rattle.tree_model.specs.Path.{IsPath};
+ghost use Rattle.line_reader.specs.Fields.{Reads, name_in, each_in, path_in};
 
 use crate::{cut_at, read_name};
-use lower_model::Items;
 use std::alloc::{AllocError, Global};
-use tree_model::{Name, Path};
+use tree_model::Path;
 
-fn names_of(alloc: Global, text: &[u8]) -> Result<Option<Items<Name>>, AllocError>
+fn names_of(alloc: Global, text: &[u8]) -> Result<Option<Path>, AllocError>
     ensures { IfOk result (λ found. found ≡ each_in name_in (slice_split (λ c. c == 47) text.now)) }
 {
-    let mut names = Items::new(alloc);
+    let mut path = Path::with_room(alloc, text.len() + 1)?;
     let mut rest = text;
     'parts: while let Some((part, behind)) = cut_at(b'/', rest) {
         let Some(name) = read_name(alloc, part)? else {
             return Ok(None);
         };
-        names.push(name)?;
+        path.push(&name)?;
         rest = behind;
     }
     let Some(name) = read_name(alloc, rest)? else {
         return Ok(None);
     };
-    names.push(name)?;
-    Ok(Some(names))
+    path.push(&name)?;
+    Ok(Some(path))
 }
 
 #[tactic(auto, unfolding(crate::specs::Fields::path_in))]
@@ -37,20 +38,16 @@ fn path_of(alloc: Global, text: &[u8]) -> Result<Option<Path>, AllocError>
                 return Ok(None);
             }
             if spelled.is_empty() {
-                let parts = Items::new(alloc);
-                return Ok(Some(Path { parts }));
+                return Ok(Some(Path::root(alloc)));
             }
-            match names_of(alloc, spelled)? {
-                Some(parts) => Ok(Some(Path { parts })),
-                None => Ok(None),
-            }
+            names_of(alloc, spelled)
         }
     }
 }
 
 /// The path that a text spells.
 pub fn read_path(alloc: Global, text: &[u8]) -> Result<Option<Path>, AllocError>
-    ensures reads { IfOk result (λ found. Reads path_text IsPath text.now found) }
+    ensures reads { IfOk result (λ found. Reads path IsPath text.now found) }
     ensures value { IfOk result (λ found. found ≡ path_in text.now) }
 {
     path_of(alloc, text)

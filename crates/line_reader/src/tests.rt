@@ -61,12 +61,13 @@ fn names(rt: HostRuntime) -> Result<(), Fail> {
 #[test]
 fn paths(rt: HostRuntime) -> Result<(), Fail> {
     let path = read_path(rt.alloc(), b"/a/b%20c")?.ok_or("a path of two names")?;
-    let parts = path.parts.as_slice();
-    assert_eq!(rt; parts.len(), 2);
-    assert_eq!(rt; parts[0].octets(), b"a".as_slice());
-    assert_eq!(rt; parts[1].octets(), b"b c".as_slice());
+    let (last, front) = path.parts().split_last().ok_or("a last name")?;
+    assert_eq!(rt; last, b"b c".as_slice());
+    let (first, others) = front.split_first().ok_or("a first name")?;
+    assert_eq!(rt; first, b"a".as_slice());
+    assert!(rt; others.is_empty());
     let root = read_path(rt.alloc(), b"/")?.ok_or("the root")?;
-    assert!(rt; root.parts.is_empty());
+    assert!(rt; root.parts().is_empty());
     for text in [
         b"".as_slice(),
         b"a".as_slice(),

@@ -1,5 +1,5 @@
 -- Fields, written one behind another.
-use Rattle.std.proofs.Common.{◌≡◌, ℕ, List, [], ◌∷◌, ◌++◌, sym, ap, append-nil}
+use Rattle.std.proofs.Common.{◌≡◌, ℕ, List, [], ◌∷◌, ◌++◌, sym, ap, append-nil, append_assoc}
 use Rattle.std.specs.List.{join_with_byte}
 use Rattle.line_writer.specs.Fields.{spaced}
 
@@ -7,3 +7,6 @@ use Rattle.line_writer.specs.Fields.{spaced}
 pub join_with_byte-cons : (first : List ℕ) (others : List (List ℕ)) → join_with_byte 32 (first ∷ others) ≡ first ++ spaced others
 join_with_byte-cons first [] = sym (append-nil first)
 join_with_byte-cons first (second ∷ others) = ap (λ rest. first ++ 32 ∷ rest) (join_with_byte-cons second others)
+
+pub pieces : (out s a b : List ℕ) → ((out ++ s) ++ a) ++ b ≡ out ++ ((s ++ a) ++ b)
+pieces out s a b = simp append_assoc

@@ -1,8 +1,11 @@
-ghost use Rattle.std.specs.Prelude.{◌≡◌, [], ◌∷◌, ◌++◌, OnOk};
+ghost use Rattle.std.specs.Prelude.{◌≡◌, ◌≤◌, [], ◌∷◌, ◌++◌, length, OnOk};
 ghost use Rattle.text_model.specs.Line.{number, hex};
 
 use itoa::Buffer;
-use std::alloc::{AllocError, Global};
+use std::alloc::AllocError;
+
+/// The most octets whose digits are made at once.
+const PIECE: usize = 1024;
 
 /// Adds a field that stands for itself.
 pub fn put_word(out: &mut Vec<u8>, word: &str) -> Result<(), AllocError>
@@ -19,12 +22,25 @@ pub fn put_number(out: &mut Vec<u8>, n: u64) -> Result<(), AllocError>
     out.extend_from_slice(digits.format(n).as_bytes())
 }
 
-/// Adds octets, each by two lower-case hexadecimal digits.
-pub fn put_hex(alloc: Global, out: &mut Vec<u8>, octets: &[u8]) -> Result<(), AllocError>
+// Adds the digits of some octets, at most as many as a piece has.
+fn put_hex_piece(out: &mut Vec<u8>, octets: &[u8]) -> Result<(), AllocError>
+    requires { length octets.now ≤ PIECE }
     ensures { OnOk result (out.new.items ≡ out.old.items ++ hex octets.now) }
 {
-    let digits = hex::encode(alloc, octets)?;
-    out.extend_from_slice(digits.as_bytes())
+    let mut digits = [0; 2 * PIECE];
+    let digits = &mut digits[..2 * octets.len()];
+    hex::encode_to_slice(octets, digits).unwrap();
+    out.extend_from_slice(digits)
+}
+
+/// Adds octets, each by two lower-case hexadecimal digits.
+pub fn put_hex(out: &mut Vec<u8>, octets: &[u8]) -> Result<(), AllocError>
+    ensures { OnOk result (out.new.items ≡ out.old.items ++ hex octets.now) }
+{
+    for piece in octets.chunks(PIECE) {
+        put_hex_piece(out, piece)?;
+    }
+    Ok(())
 }
 
 /// Adds the space between two fields.

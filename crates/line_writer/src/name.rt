@@ -1,9 +1,9 @@
 ghost use Rattle.std.specs.Prelude.{◌≡◌, ◌++◌, OnOk};
 ghost use Rattle.std.specs.List.{flat_map};
-ghost use Rattle.text_model.specs.Line.{is_plain as plain_test, name_octet, name, slash_name, path};
+ghost use Rattle.text_model.specs.Line.{is_plain as plain_test, name_octet, name, slash_name, path as path_text};
 
 use std::alloc::AllocError;
-use tree_model::Name;
+use tree_model::{Parts, Path};
 
 fn is_plain(c: u8) -> bool
     ensures { result ≡ plain_test c }
@@ -35,20 +35,23 @@ pub fn put_name(out: &mut Vec<u8>, octets: &[u8]) -> Result<(), AllocError>
     Ok(())
 }
 
-fn put_parts(out: &mut Vec<u8>, parts: &[Name]) -> Result<(), AllocError>
-    ensures { OnOk result (out.new.items ≡ out.old.items ++ flat_map slash_name parts.now) }
+fn put_parts(out: &mut Vec<u8>, parts: Parts<'_>) -> Result<(), AllocError>
+    ensures { OnOk result (out.new.items ≡ out.old.items ++ flat_map slash_name parts.entry) }
 {
-    for part in parts {
+    let mut rest = parts;
+    while let Some((name, others)) = rest.split_first() {
         out.push(b'/')?;
-        put_name(out, part.octets())?;
+        put_name(out, name)?;
+        rest = others;
     }
     Ok(())
 }
 
 /// Adds a path: a slash for the root, or a slash and a name for each of its parts.
-pub fn put_path(out: &mut Vec<u8>, parts: &[Name]) -> Result<(), AllocError>
-    ensures { OnOk result (out.new.items ≡ out.old.items ++ path parts.now) }
+pub fn put_path(out: &mut Vec<u8>, path: &Path) -> Result<(), AllocError>
+    ensures { OnOk result (out.new.items ≡ out.old.items ++ path_text path.now) }
 {
+    let parts = path.parts();
     if parts.is_empty() {
         out.push(b'/')?;
         return Ok(());

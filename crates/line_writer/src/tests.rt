@@ -1,7 +1,7 @@
 use crate::{put_hex, put_line_end, put_name, put_number, put_path, put_space, put_word};
 use std::process::Abort;
 use std::test::Fail;
-use tree_model::Name;
+use tree_model::{Name, Path};
 
 fn made(rt: &impl Abort, octets: Vec<u8>) -> Name {
     Name::new(octets).ok().expect(rt, "a name")
@@ -60,11 +60,12 @@ fn the_longest_names(rt: HostRuntime) -> Result<(), Fail> {
 #[test]
 fn paths(rt: HostRuntime) -> Result<(), Fail> {
     let mut out = Vec::new(rt.alloc());
-    put_path(&mut out, &[])?;
+    let mut path = Path::root(rt.alloc());
+    put_path(&mut out, &path)?;
     put_space(&mut out)?;
-    let first = made(&rt, Vec::from_slice(rt.alloc(), b"a")?);
-    let second = made(&rt, Vec::from_slice(rt.alloc(), b"b c")?);
-    put_path(&mut out, &[first, second])?;
+    path.push(&made(&rt, Vec::from_slice(rt.alloc(), b"a")?))?;
+    path.push(&made(&rt, Vec::from_slice(rt.alloc(), b"b c")?))?;
+    put_path(&mut out, &path)?;
     assert_eq!(rt; out.as_slice(), b"/ /a/b%20c".as_slice());
     Ok(())
 }
@@ -74,7 +75,7 @@ fn a_line(rt: HostRuntime) -> Result<(), Fail> {
     let mut out = Vec::new(rt.alloc());
     put_word(&mut out, "salt")?;
     put_space(&mut out)?;
-    put_hex(rt.alloc(), &mut out, &[0x00, 0x11, 0xab, 0xff])?;
+    put_hex(&mut out, &[0x00, 0x11, 0xab, 0xff])?;
     put_line_end(&mut out)?;
     assert_eq!(rt; out.as_slice(), b"salt 0011abff\n".as_slice());
     Ok(())

@@ -1,8 +1,8 @@
 -- A script, one operation on, and a whole script as the one of a run.
-use Rattle.std.proofs.Common.{◌≡◌, ℕ, suc, ◌+◌, ◌<◌, ◌≤◌, List, [], ◌∷◌, ◌++◌, length, get_or, take, refl, sym, ap, subst, ◌∙◌, append_assoc, arith}
+use Rattle.std.proofs.Common.{◌≡◌, ℕ, suc, ◌+◌, ◌<◌, List, [], ◌∷◌, ◌++◌, length, refl, sym, ap, subst, ◌∙◌, append_assoc, arith}
 use Rattle.std.specs.Prelude.{◌==◌, filter}
 use Rattle.std.specs.List.{AllByRecursion}
-use Rattle.std.proofs.lemmas.List.{take_more, take_all, append-nil, length-take}
+use Rattle.std.proofs.lemmas.List.{append-nil}
 use Rattle.std.proofs.lemmas.Bool.{eq-eqb}
 use Rattle.tree_model.specs.PlainTree.{PlainTree}
 use Rattle.session_model.specs.declared.op.Op.{Op}
@@ -43,22 +43,18 @@ AreDone-push k slots (o ∷ script) op log own (r ∷ replies) reply p q =
 abbrev pub OpDone : ℕ → Op → PlainTree → PlainTree → List TreeEntry → List TreeEntry → Reply → Type 0
 OpDone k op old new before after reply = (own : List TreeEntry) × (after ≡ before ++ own) × DoesOp k op old new own reply
 
-pub runs_more : (script : List Op) (i : ℕ) (op : Op) (start old new : PlainTree) (before after : List TreeEntry) (replies told : List Reply) (reply : Reply) → i < length script → op ≡ get_or script i op
-    → RunsScript (take i script) start old before replies → OpDone i op old new before after reply → told ≡ replies ++ reply ∷ [] → RunsScript (take (i + 1) script) start new after told
-runs_more script i op start old new before after replies told reply lt is runs one more =
+pub runs_more : (script : List Op) (k : ℕ) (op : Op) (start old new : PlainTree) (before after : List TreeEntry) (replies told : List Reply) (reply : Reply) → k ≡ length script
+    → RunsScript script start old before replies → OpDone k op old new before after reply → told ≡ replies ++ reply ∷ [] → RunsScript (script ++ op ∷ []) start new after told
+runs_more script k op start old new before after replies told reply len runs one more =
     let own = one.0 in
-    let len : 0 + length (take i script) ≡ i = omega (arith, length-take i script) in
-    let calls : CallsTree 0 (0 + length (take i script)) (call_of op) own reply = subst (λ (n : ℕ). CallsTree 0 n (call_of op) own reply) (sym len) one.2.calls in
-    let all : RunsScript (take i script ++ op ∷ []) start new (before ++ own) (replies ++ reply ∷ []) = record {
+    let first : k ≡ 0 + length script = omega (arith, len) in
+    let calls : CallsTree 0 (0 + length script) (call_of op) own reply = subst (λ (n : ℕ). CallsTree 0 n (call_of op) own reply) first one.2.calls in
+    let all : RunsScript (script ++ op ∷ []) start new (before ++ own) (replies ++ reply ∷ []) = record {
       legal = IsLegal-append start old new before own runs.legal one.2.legal;
       are_own = AreOwn-append before own runs.are_own one.2.are_own;
-      are_done = AreDone-push 0 closed_slots (take i script) op before own replies reply runs.are_done calls;
+      are_done = AreDone-push 0 closed_slots script op before own replies reply runs.are_done calls;
     } in
-    let e : take (i + 1) script ≡ take i script ++ op ∷ [] = take_more script i op lt ∙ ap (λ (o : Op). take i script ++ o ∷ []) (sym is) in
-    rw (e, one.1, more) all
-
-pub whole_script : (script : List Op) (k : ℕ) (old new : PlainTree) (log : List TreeEntry) (replies : List Reply) → length script ≤ k → RunsScript (take k script) old new log replies → RunsScript script old new log replies
-whole_script script k old new log replies past runs = subst (λ (ops : List Op). RunsScript ops old new log replies) (take_all k script past) runs
+    rw (one.1, more) all
 
 -- ---- the one script of a run
 

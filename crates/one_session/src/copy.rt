@@ -2,29 +2,17 @@ ghost use Rattle.std.specs.Prelude.{◌≡◌, IfOk, OnErr};
 ghost use Rattle.one_session.specs.OneSession.{call_of, HasNames};
 
 use lower_model::Items;
-use plain_tree::{Path, Shown, TreeCall, TreeReply};
+use plain_tree::{Shown, TreeCall, TreeReply};
 use session_model::Op;
 use std::alloc::{AllocError, Global};
 
-fn copied_path(alloc: Global, path: &Path) -> Result<Path, AllocError>
-    ensures { IfOk result (λ p. p ≡ path.now) }
-{
-    let mut parts = Vec::with_capacity(alloc, path.parts.len())?;
-    for name in path.parts.as_slice() {
-        parts.push(name.copied(alloc)?)?;
-    }
-    Ok(Path {
-        parts: Items::from_vec(parts),
-    })
-}
-
-/// The call of an operation.
-pub fn call_of(alloc: Global, op: &Op) -> Result<TreeCall, AllocError>
-    ensures { IfOk result (λ call. call ≡ call_of op.now) }
+/// The call of an operation. It takes no memory.
+pub fn call_of(op: Op) -> TreeCall
+    ensures { result ≡ call_of op }
 {
     match op {
-        Op::Mkdir(path) => Ok(TreeCall::Mkdir(copied_path(alloc, path)?)),
-        Op::List(path) => Ok(TreeCall::List(copied_path(alloc, path)?)),
+        Op::Mkdir(path) => TreeCall::Mkdir(path),
+        Op::List(path) => TreeCall::List(path),
     }
 }
 

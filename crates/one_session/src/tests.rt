@@ -1,5 +1,4 @@
 use crate::run_script;
-use lower_model::Items;
 use plain_tree::{Name, Path, Tree, TreeCall, TreeRefusal, TreeReply};
 use session_model::{Op, Reply};
 use std::alloc::Global;
@@ -7,15 +6,12 @@ use std::test::Fail;
 
 /// The path of this name in the root, or the root's where it is empty.
 fn path(alloc: Global, name: &[u8]) -> Result<Path, Fail> {
-    let mut parts = Items::new(alloc);
+    let mut path = Path::root(alloc);
     if !name.is_empty() {
-        parts.push(
-            Name::new(Vec::from_slice(alloc, name)?)
-                .ok()
-                .ok_or("no name")?,
-        )?;
+        let octets = Vec::from_slice(alloc, name)?;
+        path.push(&Name::new(octets).ok().ok_or("no name")?)?;
     }
-    Ok(Path { parts })
+    Ok(path)
 }
 
 #[test]
@@ -27,7 +23,7 @@ fn logs_each_call_with_its_reply(rt: HostRuntime) -> Result<(), Fail> {
         Op::List(path(alloc, b"")?),
         Op::Mkdir(path(alloc, b"a")?),
     ]?;
-    let ran = run_script(alloc, &mut tree, &script)?;
+    let ran = run_script(alloc, &mut tree, script)?;
     assert_eq!(rt; ran.replies.len(), 3);
     assert!(rt; matches!(&ran.replies[0], Reply::Tree(TreeReply::Done)));
     assert!(rt; matches!(&ran.replies[1], Reply::Tree(TreeReply::Names(_))));
@@ -46,7 +42,7 @@ fn logs_each_call_with_its_reply(rt: HostRuntime) -> Result<(), Fail> {
 #[test]
 fn runs_the_empty_script(rt: HostRuntime) -> Result<(), Fail> {
     let mut tree = Tree::new(rt.alloc(), 255, 1)?;
-    let ran = run_script(rt.alloc(), &mut tree, &[])?;
+    let ran = run_script(rt.alloc(), &mut tree, Vec::new(rt.alloc()))?;
     assert_eq!(rt; (ran.log.len(), ran.replies.len()), (0, 0));
     Ok(())
 }

@@ -11,9 +11,9 @@ use Rattle.lower_model.specs.declared.kind.Kind.TheVariants as kinds
 use Rattle.tree_model.specs.declared.place.Directory.{Directory}
 use Rattle.tree_model.specs.declared.place.Place.{Place}
 use Rattle.tree_model.specs.declared.place.Place.TheVariants.{Dir, File, Nothing}
-use Rattle.tree_model.specs.Names.{is_named, node_of, put_entry}
+use Rattle.tree_model.specs.Names.{is_named, node_of, put_entry, RisesBehind}
 use Rattle.tree_model.specs.PlainTree.{most_nodes, empty_directory, place_with, placed, added}
-use Rattle.tree_model.specs.IsTree.{IsTree, IsDirectory, IsNode, RisesBehind, node_in}
+use Rattle.tree_model.specs.IsTree.{IsTree, IsDirectory, IsNode, node_in}
 use Rattle.tree_model.proofs.NameLemmas.{is_named_is, node_of-put_entry, comes_behind_nothing, RisesBehind-put_entry}
 use Rattle.plain_tree.specs.Entered.{begun, TakesName}
 use Rattle.plain_tree.proofs.Places.{slice_get-set, slice_get-push}

@@ -1,4 +1,3 @@
 pub mod Places
 pub mod IsTreeLemmas
-pub mod Walks
 pub mod Steps

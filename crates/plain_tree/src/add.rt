@@ -1,6 +1,8 @@
-ghost use Rattle.std.specs.Prelude.{◌≡◌, ◌<◌, ◌≤◌, length, vec_capacity, OnOk, OnErr};
+ghost use Rattle.std.specs.Prelude.{◌≡◌, ◌<◌, length, slice_get, vec_capacity, IsTrue, OnOk, OnErr};
+ghost use Rattle.lower_model.specs.Name.{is_name};
 ghost use Rattle.tree_model.specs.PlainTree.{most_nodes, empty_directory, placed, added};
-ghost use Rattle.plain_tree.specs.Entered.{begun, TakesName};
+ghost use Rattle.tree_model.specs.IsTree.{IsDirectory};
+ghost use Rattle.plain_tree.specs.Entered.{begun};
 
 use lower_model::{Items, Kind};
 use std::alloc::{AllocError, Global};
@@ -28,10 +30,11 @@ pub fn begun(alloc: Global, kind: Kind) -> Place
 
 /// Puts an entry into the directory at a number. Without memory the places stay.
 pub fn put(places: &mut Vec<Place>, at: u32, name: Name, node: u32) -> Result<(), AllocError>
-    requires { at < length places.old.items }
+    requires { IsDirectory (slice_get places.old.items at) }
     ensures ok { OnOk result (places.new.items ≡ placed places.old.items at name node) }
     ensures err { OnErr result (places.new.items ≡ places.old.items) }
     ensures capacity { vec_capacity places.new ≡ vec_capacity places.old }
+    ensures lawful { IsTrue (is_name name) }
 {
     if let Place::Dir(d) = &mut places[at as usize] {
         d.shown.insert(name, node)?;
@@ -41,10 +44,11 @@ pub fn put(places: &mut Vec<Place>, at: u32, name: Name, node: u32) -> Result<()
 
 /// Adds an entry whose node has the next number. Without memory the places stay.
 pub fn add(places: &mut Vec<Place>, at: u32, name: Name, place: Place) -> Result<(), AllocError>
-    requires at { at < length places.old.items }
+    requires directory { IsDirectory (slice_get places.old.items at) }
     requires few { length places.old.items < most_nodes }
     ensures ok { OnOk result (places.new.items ≡ added places.old.items at name place) }
     ensures err { OnErr result (places.new.items ≡ places.old.items) }
+    ensures lawful { OnOk result (IsTrue (is_name name)) }
 {
     places.try_reserve(1)?;
     let node = places.len() as u32;

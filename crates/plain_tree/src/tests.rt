@@ -1,5 +1,5 @@
 use crate::{Name, Path, Shown, Tree, TreeCall, TreeRefusal, TreeReply};
-use lower_model::{Items, Kind};
+use lower_model::Kind;
 use std::alloc::Global;
 use std::process::Abort;
 use std::test::Fail;
@@ -14,13 +14,13 @@ fn name(alloc: Global, octets: &[u8]) -> Result<Name, Fail> {
 
 /// The path that is written so, each name behind a slash.
 fn path(alloc: Global, text: &[u8]) -> Result<Path, Fail> {
-    let mut parts = Items::new(alloc);
+    let mut path = Path::with_room(alloc, text.len())?;
     for part in text.split(|c| *c == b'/') {
         if !part.is_empty() {
-            parts.push(name(alloc, part)?)?;
+            path.push(&name(alloc, part)?)?;
         }
     }
-    Ok(Path { parts })
+    Ok(path)
 }
 
 /// The call that is written so.
@@ -82,7 +82,7 @@ fn answers(
     rows: &[(&[u8], &[u8])],
 ) -> Result<(), Fail> {
     for (text, want) in rows {
-        let reply = tree.step(alloc, call(alloc, text)?);
+        let reply = tree.step(alloc, &call(alloc, text)?);
         assert_eq!(rt; told(alloc, &reply)?.as_slice(), *want);
     }
     Ok(())
@@ -127,8 +127,9 @@ fn refuses_a_name_that_is_too_long_before_all_else(rt: HostRuntime) -> Result<()
     )?;
     let mut tree = Tree::new(rt.alloc(), 255, 1)?;
     let longest = vec![in rt.alloc(); b'n'; 255]?;
-    let parts = Items::from_vec(vec![in rt.alloc(); name(rt.alloc(), &longest)?]?);
-    let reply = tree.step(rt.alloc(), TreeCall::Mkdir(Path { parts }));
+    let mut path = Path::root(rt.alloc());
+    path.push(&name(rt.alloc(), &longest)?)?;
+    let reply = tree.step(rt.alloc(), &TreeCall::Mkdir(path));
     assert_eq!(rt; told(rt.alloc(), &reply)?.as_slice(), b"done".as_slice());
     Ok(())
 }

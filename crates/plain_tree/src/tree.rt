@@ -36,10 +36,10 @@ fn shown_entries(alloc: Global, places: &[Place], d: &Directory) -> Result<Items
     ensures { IfOk result (λ found. found ≡ map (shown_entry places.now) d.now.shown) }
 {
     let mut found = Items::new(alloc);
-    for (name, node) in d.shown.entries() {
+    for entry in d.shown.entries() {
         found.push(Shown {
-            kind: kind(places, *node),
-            name: name.copied(alloc)?,
+            kind: kind(places, entry.1),
+            name: entry.0.copied(alloc)?,
         })?;
     }
     Ok(found)
@@ -67,7 +67,6 @@ impl Tree {
         ensures ok { OnOk result (self.new ≡ entered self.old dir name kind node) }
         ensures err { OnErr result (self.new ≡ self.old) }
     {
-        let _octets = name.octets();
         let place = begun(*self.places.allocator(), kind);
         put(&mut self.places, dir, name, node)?;
         self.places[node as usize] = place;
@@ -83,36 +82,38 @@ impl Tree {
     }
 
     /// One call, by the tests of the plain tree in their order. `Memory` leaves the tree as it was.
-    pub fn step(&mut self, alloc: Global, call: TreeCall) -> TreeReply
-        ensures stepped { StepsOrMemory result self.old self.new (step self.old call) }
+    pub fn step(&mut self, alloc: Global, call: &TreeCall) -> TreeReply
+        ensures stepped { StepsOrMemory result self.old self.new (step self.old call.now) }
     {
         match call {
             TreeCall::Mkdir(path) => self.make_dir(alloc, path),
-            TreeCall::List(path) => self.list(alloc, &path),
+            TreeCall::List(path) => self.list(alloc, path),
         }
     }
 
-    fn make_dir(&mut self, alloc: Global, path: Path) -> TreeReply
-        ensures { StepsOrMemory result self.old self.new (step self.old (calls.Mkdir path)) }
+    fn make_dir(&mut self, alloc: Global, path: &Path) -> TreeReply
+        ensures { StepsOrMemory result self.old self.new (step self.old (calls.Mkdir path.now)) }
     {
-        let mut parents = path.parts.into_vec();
-        let Some(name) = parents.pop() else {
+        let Some((name, parents)) = path.parts().split_last() else {
             return TreeReply::Refused(TreeRefusal::IsRoot);
         };
-        let at = match room(self.limit, &self.places, &parents, &name) {
+        let at = match room(self.limit, &self.places, parents, name) {
             Ok(at) => at,
             Err(refusal) => return TreeReply::Refused(refusal),
         };
-        match add(&mut self.places, at, name, begun(alloc, Kind::Dir)) {
-            Ok(()) => TreeReply::Done,
-            Err(_) => TreeReply::Memory,
-        }
+        let Ok(name) = Name::from_slice(alloc, name) else {
+            return TreeReply::Memory;
+        };
+        let Ok(()) = add(&mut self.places, at, name, begun(alloc, Kind::Dir)) else {
+            return TreeReply::Memory;
+        };
+        TreeReply::Done
     }
 
     fn list(&self, alloc: Global, path: &Path) -> TreeReply
         ensures { StepsOrMemory result self.now self.now (step self.now (calls.List path.now)) }
     {
-        let at = match walked(&self.places, path.parts.as_slice()) {
+        let at = match walked(&self.places, path.parts()) {
             Ok(at) => at,
             Err(refusal) => return TreeReply::Refused(refusal),
         };

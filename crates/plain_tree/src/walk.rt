@@ -3,10 +3,10 @@ ghost use Rattle.tree_model.specs.PlainTree.{kind_or_file};
 ghost use Rattle.tree_model.specs.Walk.{walk, entry_of, kind_of};
 
 use lower_model::Kind;
-use tree_model::{Name, Place, TreeRefusal};
+use tree_model::{Parts, Place, TreeRefusal};
 
 /// The node of a name in the directory at a number.
-fn entry(places: &[Place], at: u32, name: &Name) -> Result<u32, TreeRefusal>
+fn entry(places: &[Place], at: u32, name: &[u8]) -> Result<u32, TreeRefusal>
     ensures { result ≡ entry_of (slice_get places.now at) name.now }
 {
     match places.get(at as usize) {
@@ -21,12 +21,14 @@ fn entry(places: &[Place], at: u32, name: &Name) -> Result<u32, TreeRefusal>
 }
 
 /// The node that these names lead to from the root.
-pub fn walked(places: &[Place], parts: &[Name]) -> Result<u32, TreeRefusal>
-    ensures { result ≡ walk places.now 0 parts.now }
+pub fn walked(places: &[Place], parts: Parts<'_>) -> Result<u32, TreeRefusal>
+    ensures { result ≡ walk places.now 0 parts.entry }
 {
     let mut at = 0u32;
-    for part in parts {
-        at = entry(places, at, part)?;
+    let mut rest = parts;
+    while let Some((name, behind)) = rest.split_first() {
+        at = entry(places, at, name)?;
+        rest = behind;
     }
     Ok(at)
 }

@@ -1,2 +1,6 @@
 pub mod NameLemmas
+pub mod PathLemmas
+pub mod PathValues
+pub mod Searches
 pub mod StepValues
+pub mod Listings

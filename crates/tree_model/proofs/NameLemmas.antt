@@ -10,8 +10,7 @@ use Rattle.std.proofs.lemmas.Map.Lookups.{exact_bytes}
 use Rattle.std.proofs.lemmas.Bool.{cases_Bool, false≢true}
 use Rattle.lower_model.specs.Name.{is_name}
 use Rattle.lower_model.specs.LowerTree.{comes_before}
-use Rattle.tree_model.specs.Names.{is_named, node_of, put_entry}
-use Rattle.tree_model.specs.IsTree.{RisesBehind}
+use Rattle.tree_model.specs.Names.{is_named, node_of, put_entry, RisesBehind}
 
 -- ---- equal names
 

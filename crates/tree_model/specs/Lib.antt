@@ -1,5 +1,7 @@
 pub mod Names
+pub mod Path
 pub mod Walk
 pub mod PlainTree
 pub mod IsTree
 pub mod Shown
+pub mod Listing

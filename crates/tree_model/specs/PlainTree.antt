@@ -105,8 +105,8 @@ abbrev pub names_in : List Place → List (List ℕ) → Result TreeReply TreeRe
 names_in places parts = walk places 0 parts >>= λ at. dir_of (slice_get places at) >>= λ d. Ok (replies.Names (map (shown_entry places) d.shown))
 
 abbrev pub outcome : PlainTree → TreeCall → Outcome
-outcome t (calls.Mkdir p) = made t replies.Done (Dir empty_directory) (room_for t.limit t.places (front p.parts) (last p.parts)) (last p.parts)
-outcome t (calls.List p) = answered (names_in t.places p.parts)
+outcome t (calls.Mkdir p) = made t replies.Done (Dir empty_directory) (room_for t.limit t.places (front p) (last p)) (last p)
+outcome t (calls.List p) = answered (names_in t.places p)
 
 -- A step: the reply, and the tree behind it.
 pub record Stepped : Type 0 where

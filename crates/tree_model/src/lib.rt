@@ -10,5 +10,5 @@ mod place;
 pub use call::{Shown, TreeCall, TreeRefusal, TreeReply};
 pub use name::Name;
 pub use names::Names;
-pub use path::Path;
+pub use path::{Parts, Path};
 pub use place::{Directory, ForeignEntry, Place};

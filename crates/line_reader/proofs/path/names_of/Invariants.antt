@@ -6,7 +6,7 @@ use Rattle.line_reader.proofs.Loops.{with_front}
 use Rattle.line_reader.proofs.path.names_of.Given as goal
 
 abbrev pub invariant-parts : goal.invariant-parts
-invariant-parts l = with_front l.names (each_in name_in (slice_split (is_at 47) l.rest)) ≡ each_in name_in (slice_split (is_at 47) l.text)
+invariant-parts l = with_front l.path (each_in name_in (slice_split (is_at 47) l.rest)) ≡ each_in name_in (slice_split (is_at 47) l.text)
 
 abbrev pub decreases-parts : goal.decreases-parts
 decreases-parts l = length l.rest

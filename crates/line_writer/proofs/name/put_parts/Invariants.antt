@@ -1,7 +1,10 @@
-use Rattle.std.proofs.Common.{◌≡◌, ◌++◌, take}
+use Rattle.std.proofs.Common.{◌≡◌, ◌++◌, length}
 use Rattle.std.specs.List.{flat_map}
 use Rattle.text_model.specs.Line.{slash_name}
 use Rattle.line_writer.proofs.name.put_parts.Given as goal
 
-abbrev pub invariant-loop-part : goal.invariant-loop-part
-invariant-loop-part l = l.out.items ≡ l.fn.out.items ++ flat_map slash_name (take l.part-index l.parts)
+abbrev pub invariant-loop-name : goal.invariant-loop-name
+invariant-loop-name l = l.out.items ++ flat_map slash_name l.rest ≡ l.fn.out.items ++ flat_map slash_name l.fn.parts
+
+abbrev pub decreases-loop-name : goal.decreases-loop-name
+decreases-loop-name l = length l.rest
