@@ -1,0 +1,61 @@
+-- A lower file decodes to at most one content, since a cipher text has at most one plain text.
+use Rattle.std.proofs.Common.{◌≡◌, ℕ, ◌+◌, ◌-◌, ◌*◌, ◌/◌, ◌%◌, ◌<◌, List, [], ◌∷◌, length, take, get_or, Option, sym, ap, subst, ◌∙◌, arith}
+use Rattle.std.proofs.lemmas.List.{ext_get_or}
+use Rattle.std.proofs.lemmas.List.Edits.{get_or-between}
+use Rattle.lower_model.specs.Octets.{AreOctets}
+use Rattle.cipher_model.proofs.PlainTexts.{cbc-only, ecb-only}
+use Rattle.key_model.specs.ExtentIv.{root_iv, extent_iv}
+use Rattle.packet_model.specs.FileKey.{IsFileKey}
+use Rattle.packet_model.specs.Metadata.{FileHeader, Metadata, metadata, data_start, extent_count}
+use Rattle.content_model.specs.declared.content.Content.{Content}
+use Rattle.content_model.specs.declared.content.Content.TheVariants.{Empty, Good, Bad}
+use Rattle.content_model.specs.Content.{Ring, extent_at, ArePlain, DecodesTo, IsGoodContent, IsContentBy, IsContent}
+use Rattle.content_model.proofs.Octets.{octet_at, part_octets}
+use Rattle.content_model.proofs.IvBlocks.{IsBlock-extent_iv}
+
+-- texts of whole extents are one when their extents are
+same_extents : (count : ℕ) (xs ys : List ℕ) → length xs ≡ 4096 * count → length ys ≡ 4096 * count → ((n : ℕ) → n < count → extent_at 0 xs n ≡ extent_at 0 ys n) → xs ≡ ys
+same_extents count xs ys long_xs long_ys same = ext_get_or 0 xs ys (long_xs ∙ sym long_ys) (λ j lt.
+    let n : ℕ = j / 4096 in
+    let r : ℕ = j % 4096 in
+    let at : 0 + 4096 * n + r ≡ j = omega arith in
+    let below : n < count = omega arith in
+    let inside : 0 + 4096 * n + r < 0 + 4096 * n + 4096 = omega arith in
+    ap (λ (k : ℕ). get_or xs k 0) (sym at) ∙ sym (get_or-between xs (0 + 4096 * n) (0 + 4096 * n + 4096) r 0 inside)
+    ∙ ap (λ (e : List ℕ). get_or e r 0) (same n below)
+    ∙ get_or-between ys (0 + 4096 * n) (0 + 4096 * n + 4096) r 0 inside ∙ ap (λ (k : ℕ). get_or ys k 0) at)
+
+-- a body has at most one plain text under a key
+pub one_plain : (key : List ℕ) (start count : ℕ) (body p q : List ℕ) → AreOctets body → ArePlain key start count body p → ArePlain key start count body q → p ≡ q
+one_plain key start count body p q fits a b =
+    let each : (octets : List ℕ) → AreOctets octets → (from n i : ℕ) → get_or (extent_at from octets n) i 0 < 256 =
+    λ octets h from n i. part_octets octets (from + 4096 * n) (from + 4096 * n + 4096 - (from + 4096 * n)) (λ j. octet_at octets j h) i in
+    same_extents count p q a.whole b.whole (λ n lt.
+    cbc-only key (extent_iv (root_iv key) n) (extent_at start body n) (extent_at 0 p n) (extent_at 0 q n) (IsBlock-extent_iv (root_iv key) n)
+    (each body fits start n) (each p a.octets 0 n) (each q b.octets 0 n) (a.extents n lt) (b.extents n lt))
+
+-- a wrapped key has at most one file key
+pub one_key : (kek wrapped k l : List ℕ) → AreOctets k → AreOctets l → IsFileKey kek wrapped k → IsFileKey kek wrapped l → k ≡ l
+one_key kek wrapped k l hk hl a b = ecb-only (take (length wrapped) kek) wrapped k l (λ i. octet_at k i hk) (λ i. octet_at l i hl) a b
+
+pub one_decoding : (kek : List ℕ) (start : ℕ) (header : FileHeader) (body xs ys : List ℕ) → AreOctets body → DecodesTo kek start header body xs → DecodesTo kek start header body ys → xs ≡ ys
+one_decoding kek start header body xs ys fits a b =
+    let keys : b.key ≡ a.key = one_key kek header.key.wrapped b.key a.key b.key_octets a.key_octets b.unwrapped a.unwrapped in
+    let other : ArePlain a.key start (extent_count header.size) body b.plain = subst (λ (k : List ℕ). ArePlain k start (extent_count header.size) body b.plain) keys b.extents in
+    let plain : a.plain ≡ b.plain = one_plain a.key start (extent_count header.size) body a.plain b.plain fits a.extents other in
+    a.first ∙ ap (λ (p : List ℕ). take header.size p) plain ∙ sym b.first
+
+one_good : (kek : List ℕ) (start : ℕ) (header : FileHeader) (body : List ℕ) (c d : Content) → AreOctets body → IsGoodContent kek start header body c → IsGoodContent kek start header body d → c ≡ d
+one_good kek start header body Empty d fits a b = absurd a
+one_good kek start header body (Bad cause) d fits a b = absurd a
+one_good kek start header body (Good xs) Empty fits a b = absurd b
+one_good kek start header body (Good xs) (Bad cause) fits a b = absurd b
+one_good kek start header body (Good xs) (Good ys) fits a b = ap (λ (z : List ℕ). Good z) (one_decoding kek start header body xs ys fits a b)
+
+one_content_by : (kek : List ℕ) (meta : Metadata) (body : List ℕ) (c d : Content) → AreOctets body → IsContentBy kek meta body c → IsContentBy kek meta body d → c ≡ d
+one_content_by kek Metadata.Empty body c d fits a b = a ∙ sym b
+one_content_by kek (Metadata.Bad cause) body c d fits a b = a ∙ sym b
+one_content_by kek (Metadata.Good place header) body c d fits a b = one_good kek (data_start place header) header body c d fits a b
+
+pub one_content : (ring : Ring) (body : List ℕ) (attribute : Option (List ℕ)) (c d : Content) → AreOctets body → IsContent ring body attribute c → IsContent ring body attribute d → c ≡ d
+one_content ring body attribute c d fits a b = one_content_by ring.kek (metadata (ring.signature ∷ []) body attribute) body c d fits a b

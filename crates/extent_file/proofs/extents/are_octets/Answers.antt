@@ -1,0 +1,6 @@
+use Rattle.std.proofs.Common.{arith}
+use Rattle.packet_model.proofs.Found.{AreOctets-from_each}
+use Rattle.extent_file.proofs.extents.are_octets.Goals as goal
+
+pub returns : goal.returns
+returns c = AreOctets-from_each c.args.octets.now (λ i. omega (arith, c.type_inv.octets i))

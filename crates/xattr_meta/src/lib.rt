@@ -1,0 +1,13 @@
+//! The metadata of an eCryptfs file: its attribute alone where it has one, else the head of its body, and whether the
+//! body is long enough for it.
+#![tactic(auto)]
+
+mod meta;
+mod reading;
+#[cfg(test)]
+mod tests;
+
+pub use file_header::{BadCause, HeaderError, MetaPlace};
+pub use meta::FileMeta;
+pub use packet_set::Ring;
+pub use reading::read_meta;
