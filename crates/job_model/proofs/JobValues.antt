@@ -8,7 +8,7 @@ use Rattle.lower_model.specs.declared.node.LowerNode.{LowerNode}
 use Rattle.session_model.specs.declared.op.Op.{Op}
 use Rattle.session_model.specs.declared.op.Op.TheVariants as ops
 use Rattle.job_model.specs.declared.job.Job.{Job}
-use Rattle.job_model.specs.declared.job.MetaPlace.TheVariants.{Header}
+use Rattle.lower_model.specs.declared.meta_place.MetaPlace.TheVariants.{Header}
 use Rattle.job_model.specs.declared.job.NameCoding.TheVariants.{Plain}
 use Rattle.job_model.specs.JobText.{job_text, script_text}
 
@@ -40,7 +40,7 @@ unfolding digits encode_with
 no_operations = refl
 
 abbrev make_and_list : List Op
-make_and_list = ops.Mkdir (record { parts = codes "a" ∷ [] }) ∷ ops.List (record { parts = [] }) ∷ []
+make_and_list = ops.Mkdir (codes "a" ∷ []) ∷ ops.List [] ∷ []
 
 two_lines : script_text make_and_list ≡ codes "script 2\nmkdir /a\nlist /\n"
 unfolding digits

@@ -1,19 +1,13 @@
 -- What a job may hold.
-use Rattle.std.specs.Prelude.{ℕ, ◌≡◌, ◌<◌, ◌≤◌, List, length, IsTrue}
+use Rattle.std.specs.Prelude.{ℕ, ◌≡◌, ◌<◌, ◌≤◌, List, length}
 use Rattle.std.specs.List.{AllByRecursion}
 use Rattle.lower_model.specs.Octets.{AreOctets}
-use Rattle.lower_model.specs.Name.{is_name}
 use Rattle.lower_model.specs.LowerTree.{IsLowerTree}
-use Rattle.lower_model.specs.declared.kind.Kind.TheVariants.{Dir}
-use Rattle.lower_model.specs.declared.node.LowerNode.{LowerNode}
-use Rattle.tree_model.specs.declared.path.Path.{Path}
+use Rattle.tree_model.specs.Path.{IsPath}
 use Rattle.session_model.specs.declared.op.Op.{Op}
 use Rattle.session_model.specs.declared.op.Op.TheVariants.{Mkdir, List as ListOp}
 use Rattle.job_model.specs.declared.job.Job.{Job}
 use Rattle.job_model.specs.declared.job.NameCoding.TheVariants.{Plain}
-
-abbrev pub IsPath : Path → Type 0
-IsPath path = AllByRecursion (λ name. IsTrue (is_name name)) path.parts
 
 abbrev pub IsOp : Op → Type 0
 IsOp (Mkdir path) = IsPath path
@@ -52,4 +46,7 @@ pub record IsJob (job : Job) : Type 0 where
 pub record IsServedSoFar (job : Job) : Type 0 where
   pub plain_names : job.names ≡ Plain
   pub one_session : length job.scripts ≡ 1
-  pub directories : AllByRecursion (λ (node : LowerNode). node.kind ≡ Dir) job.image
+
+-- the longest name in a mount with plain names
+abbrev pub longest_name : ℕ
+longest_name = 255

@@ -3,12 +3,11 @@ use Rattle.std.specs.Prelude.{ℕ, ◌≡◌, ◌≤◌, List, [], ◌∷◌, �
 use Rattle.std.specs.List.{flat_map}
 use Rattle.image_model.specs.Spelling.{image}
 use Rattle.text_model.specs.Line.{line, number, hex, path}
-use Rattle.tree_model.specs.declared.path.Path.{Path}
 use Rattle.session_model.specs.declared.op.Op.{Op}
 use Rattle.session_model.specs.declared.op.Op.TheVariants.{Mkdir, List as ListOp}
 use Rattle.job_model.specs.declared.job.Job.{Job}
-use Rattle.job_model.specs.declared.job.MetaPlace.{MetaPlace}
-use Rattle.job_model.specs.declared.job.MetaPlace.TheVariants.{Header, Attribute}
+use Rattle.lower_model.specs.declared.meta_place.MetaPlace.{MetaPlace}
+use Rattle.lower_model.specs.declared.meta_place.MetaPlace.TheVariants.{Header, Attribute}
 use Rattle.job_model.specs.declared.job.NameCoding.{NameCoding}
 use Rattle.job_model.specs.declared.job.NameCoding.TheVariants.{Plain, Tag70}
 use Rattle.job_model.specs.Job.{IsJob, IsServedSoFar}
@@ -18,8 +17,8 @@ abbrev pub most_octets : ℕ
 most_octets = 268435456
 
 abbrev pub op_line : Op → List ℕ
-op_line (Mkdir p) = line (codes "mkdir" ∷ path p.parts ∷ [])
-op_line (ListOp p) = line (codes "list" ∷ path p.parts ∷ [])
+op_line (Mkdir p) = line (codes "mkdir" ∷ path p ∷ [])
+op_line (ListOp p) = line (codes "list" ∷ path p ∷ [])
 
 abbrev pub script_text : List Op → List ℕ
 script_text ops = line (codes "script" ∷ number (length ops) ∷ []) ++ flat_map op_line ops

@@ -1,4 +1,4 @@
-use lower_model::{Items, LowerTree};
+use lower_model::{Items, LowerTree, MetaPlace};
 use session_model::Op;
 
 /// How a mount writes new names.
@@ -8,15 +8,6 @@ pub enum NameCoding {
     Plain,
     /// Encrypted, as tag 70 packets.
     Tag70,
-}
-
-/// Where a mount keeps the metadata of new files.
-#[derive(Clone, Copy, Debug, PartialEq, Eq)]
-pub enum MetaPlace {
-    /// In the first octets of the body.
-    Header,
-    /// In the attribute `user.ecryptfs`.
-    Attribute,
 }
 
 /// What a run of the program is given.

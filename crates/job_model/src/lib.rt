@@ -3,4 +3,5 @@
 
 mod job;
 
-pub use job::{Job, MetaPlace, NameCoding};
+pub use job::{Job, NameCoding};
+pub use lower_model::MetaPlace;

@@ -1,13 +1,10 @@
 -- A whole job: what is read is a job that is spelled so, and what is spelled so is read.
 use Rattle.std.proofs.Common.{◌≡◌, ℕ, suc, ◌<◌, ◌≤◌, ◌^◌, true, false, List, [], ◌∷◌, ◌++◌, length, get_or, map, codes, Result, Ok, Err, refl, sym, ap, subst, ◌∙◌, append_assoc, arith}
-use Rattle.std.specs.Prelude.{◌&&◌, ◌==◌}
-use Rattle.std.specs.List.{list_all, flat_map, AllByRecursion}
+use Rattle.std.specs.Prelude.{◌==◌}
+use Rattle.std.specs.List.{flat_map}
 use Rattle.std.proofs.lemmas.Bool.{and_parts, eqb-true}
 use Rattle.std.proofs.lemmas.List.{nil_from_length, length-append}
 use Rattle.lower_model.specs.Octets.{AreOctets}
-use Rattle.lower_model.specs.declared.kind.Kind.{Kind}
-use Rattle.lower_model.specs.declared.kind.Kind.TheVariants.{Dir, File}
-use Rattle.lower_model.specs.declared.node.LowerNode.{LowerNode}
 use Rattle.image_model.specs.Spelling.{image}
 use Rattle.text_model.specs.Line.{line, number, hex}
 use Rattle.session_model.specs.declared.op.Op.{Op}
@@ -19,7 +16,7 @@ use Rattle.job_model.specs.JobText.{IsJobText, settings_text, coding_word, place
 use Rattle.job_text.specs.declared.settings.Keys.{Keys}
 use Rattle.job_text.specs.declared.settings.Making.{Making}
 use Rattle.job_text.specs.Outcome.{IsNoJob}
-use Rattle.job_text.specs.Reading.{whole_at, keys_at, making_at, image_at, scripts_at, schedule_at, end_at, Work, work_at, job_of, job_at, is_plain, is_dir, is_directory, is_served_so_far}
+use Rattle.job_text.specs.Reading.{whole_at, keys_at, making_at, image_at, scripts_at, schedule_at, end_at, Work, work_at, job_of, job_at, is_plain, is_served_so_far}
 use Rattle.job_text.proofs.Parts.{bind_ok, ok_is, ended, AreOctets-rest, whole_found, whole_again}
 use Rattle.job_text.proofs.Laws.{IsImage, image_part, AreCounted, counted_text, scripts_part, schedule_part, AreKeys, keys_text, keys_part, IsMaking, making_text, making_part, joined, apart}
 
@@ -146,28 +143,13 @@ coding_is : (coding : NameCoding) → is_plain coding ≡ true → coding ≡ Pl
 coding_is Plain e = refl
 coding_is Tag70 e = absurd cc
 
-kind_is : (kind : Kind) → is_dir kind ≡ true → kind ≡ Dir
-kind_is Dir e = refl
-kind_is File e = absurd cc
-
-directories : (nodes : List LowerNode) → list_all is_directory nodes ≡ true → AllByRecursion (λ (node : LowerNode). node.kind ≡ Dir) nodes
-directories [] e = tt
-directories (node ∷ nodes) e =
-    let parts = and_parts (is_directory node) (list_all is_directory nodes) e in
-    (kind_is node.kind parts.0, directories nodes parts.1)
-
-all_directories : (nodes : List LowerNode) → AllByRecursion (λ (node : LowerNode). node.kind ≡ Dir) nodes → list_all is_directory nodes ≡ true
-all_directories [] h = refl
-all_directories (node ∷ nodes) h = rw h.0 (all_directories nodes h.1)
-
 served : (job : Job) → is_served_so_far job ≡ true → IsServedSoFar job
 served job e =
-    let first = and_parts (is_plain job.names && length job.scripts == 1) (list_all is_directory job.image) e in
-    let second = and_parts (is_plain job.names) (length job.scripts == 1) first.0 in
-    record { plain_names = coding_is job.names second.0; one_session = eqb-true (length job.scripts) 1 second.1; directories = directories job.image first.1 }
+    let both = and_parts (is_plain job.names) (length job.scripts == 1) e in
+    record { plain_names = coding_is job.names both.0; one_session = eqb-true (length job.scripts) 1 both.1 }
 
 serves : (job : Job) → IsServedSoFar job → is_served_so_far job ≡ true
-serves job h = rw (h.plain_names, h.one_session, all_directories job.image h.directories) refl
+serves job h = rw (h.plain_names, h.one_session) refl
 
 -- ---- texts of jobs
 

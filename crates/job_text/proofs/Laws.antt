@@ -17,8 +17,8 @@ use Rattle.session_model.specs.declared.op.Op.{Op}
 use Rattle.session_model.specs.declared.op.Op.TheVariants.{Mkdir, List as ListOp}
 use Rattle.job_model.specs.declared.job.NameCoding.{NameCoding}
 use Rattle.job_model.specs.declared.job.NameCoding.TheVariants.{Plain, Tag70}
-use Rattle.job_model.specs.declared.job.MetaPlace.{MetaPlace}
-use Rattle.job_model.specs.declared.job.MetaPlace.TheVariants.{Header, Attribute}
+use Rattle.lower_model.specs.declared.meta_place.MetaPlace.{MetaPlace}
+use Rattle.lower_model.specs.declared.meta_place.MetaPlace.TheVariants.{Header, Attribute}
 use Rattle.job_model.specs.Job.{IsOp, IsScript, IsPassphrase, IsSchedule}
 use Rattle.job_model.specs.JobText.{op_line, script_text, coding_word, place_word, image_text}
 use Rattle.line_reader.specs.Fields.{IsU64, AreSized, number_in, sized_hex_in}

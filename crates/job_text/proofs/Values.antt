@@ -11,14 +11,13 @@ use Rattle.std.proofs.lemmas.Fmt.{digits_decimal}
 use Rattle.std.proofs.lemmas.Option.{none-some, same_Some}
 use Rattle.std.proofs.lemmas.Slice.Eq.{bytes_eq-Decides}
 use Rattle.lower_model.specs.Octets.{AreOctets}
-use Rattle.tree_model.specs.declared.path.Path.{Path}
 use Rattle.text_model.specs.Line.{number, hex, path, name, slash_name}
 use Rattle.session_model.specs.declared.op.Op.{Op}
 use Rattle.session_model.specs.declared.op.Op.TheVariants.{Mkdir, List as ListOp}
 use Rattle.job_model.specs.declared.job.NameCoding.{NameCoding}
 use Rattle.job_model.specs.declared.job.NameCoding.TheVariants.{Plain, Tag70}
-use Rattle.job_model.specs.declared.job.MetaPlace.{MetaPlace}
-use Rattle.job_model.specs.declared.job.MetaPlace.TheVariants.{Header, Attribute}
+use Rattle.lower_model.specs.declared.meta_place.MetaPlace.{MetaPlace}
+use Rattle.lower_model.specs.declared.meta_place.MetaPlace.TheVariants.{Header, Attribute}
 use Rattle.job_model.specs.Job.{IsOp, IsPassphrase, IsSchedule}
 use Rattle.job_model.specs.JobText.{coding_word, place_word}
 use Rattle.line_reader.specs.Fields.{IsName, number_in, hex_in, path_in, each_in}
@@ -132,10 +131,10 @@ count_reader least most small = record { found = found; again = again }
 -- ---- operations
 
 abbrev pub op_text : Op → List ℕ
-op_text (Mkdir p) = codes "mkdir " ++ path p.parts
-op_text (ListOp p) = codes "list " ++ path p.parts
+op_text (Mkdir p) = codes "mkdir " ++ path p
+op_text (ListOp p) = codes "list " ++ path p
 
-map_some : (f : Path → Op) (o : Option Path) (op : Op) → option_map f o ≡ Some op → (p : Path) × (o ≡ Some p) × (f p ≡ op)
+map_some : (f : List (List ℕ) → Op) (o : Option (List (List ℕ))) (op : Op) → option_map f o ≡ Some op → (p : List (List ℕ)) × (o ≡ Some p) × (f p ≡ op)
 map_some f None op e = absurd (none-some op e)
 map_some f (Some p) op e = (p, refl, same_Some (f p) op e)
 
@@ -161,8 +160,8 @@ op_reader = record { found = found; again = again }
     again (ListOp p) h = ap (option_map ListOp) (path_reader.again p h)
 
 pub op_no_end : (op : Op) → IsOp op → HasNoEnd (op_text op)
-op_no_end (Mkdir p) h = path_no_end p.parts h
-op_no_end (ListOp p) h = path_no_end p.parts h
+op_no_end (Mkdir p) h = path_no_end p h
+op_no_end (ListOp p) h = path_no_end p h
 
 -- ---- the schedule
 

@@ -1,10 +1,8 @@
 -- Reading a job line by line, up to the first line that isn't in the grammar at its place.
 use Rattle.std.specs.Prelude.{ℕ, zero, suc, ◌≡◌, ◌-◌, List, [], ◌∷◌, length, take, drop, codes, Option, Some, None, Result, Ok, Err, Bool, true, false, nat_lt, nat_le, ◌==◌, ◌&&◌, if◌then◌else◌}
-use Rattle.std.specs.List.{slice_split, list_all}
+use Rattle.std.specs.List.{slice_split}
 use Rattle.std.specs.Option.{option_map}
 use Rattle.std.specs.Str.{bytes_eq}
-use Rattle.lower_model.specs.declared.kind.Kind.{Kind}
-use Rattle.lower_model.specs.declared.kind.Kind.TheVariants.{Dir, File}
 use Rattle.lower_model.specs.declared.node.LowerNode.{LowerNode}
 use Rattle.image_model.specs.declared.fault.ImageFault.{ImageFault}
 use Rattle.image_model.specs.Reading.{reading}
@@ -13,8 +11,8 @@ use Rattle.session_model.specs.declared.op.Op.TheVariants.{Mkdir, List as ListOp
 use Rattle.job_model.specs.declared.job.Job.{Job}
 use Rattle.job_model.specs.declared.job.NameCoding.{NameCoding}
 use Rattle.job_model.specs.declared.job.NameCoding.TheVariants.{Plain, Tag70}
-use Rattle.job_model.specs.declared.job.MetaPlace.{MetaPlace}
-use Rattle.job_model.specs.declared.job.MetaPlace.TheVariants.{Header, Attribute}
+use Rattle.lower_model.specs.declared.meta_place.MetaPlace.{MetaPlace}
+use Rattle.lower_model.specs.declared.meta_place.MetaPlace.TheVariants.{Header, Attribute}
 use Rattle.line_reader.specs.Lines.{line_in}
 use Rattle.line_reader.specs.Fields.{number_in, hex_in, sized_hex_in, path_in, each_in}
 use Rattle.job_text.specs.declared.fault.LineError.{LineError}
@@ -230,12 +228,5 @@ abbrev pub is_plain : NameCoding → Bool
 is_plain Plain = true
 is_plain Tag70 = false
 
-abbrev pub is_dir : Kind → Bool
-is_dir Dir = true
-is_dir File = false
-
-abbrev pub is_directory : LowerNode → Bool
-is_directory node = is_dir node.kind
-
 abbrev pub is_served_so_far : Job → Bool
-is_served_so_far job = is_plain job.names && length job.scripts == 1 && list_all is_directory job.image
+is_served_so_far job = is_plain job.names && length job.scripts == 1

@@ -1,10 +1,8 @@
-ghost use Rattle.std.specs.Prelude.{◌≡◌, List, IfOk, Err};
-ghost use Rattle.std.specs.List.{list_all};
-ghost use Rattle.lower_model.specs.declared.node.LowerNode.{LowerNode};
+ghost use Rattle.std.specs.Prelude.{◌≡◌, IfOk, Err};
 ghost use Rattle.job_model.specs.declared.job.Job.{Job as JobValue};
 ghost use Rattle.job_model.specs.JobText.{IsJobText};
 ghost use Rattle.job_text.specs.Outcome.{IsNoJob, IsJobOrMemory};
-ghost use Rattle.job_text.specs.Reading.{Gives, end_at, work_at, job_at, is_directory, is_served_so_far as served_test};
+ghost use Rattle.job_text.specs.Reading.{Gives, end_at, work_at, job_at, is_served_so_far as served_test};
 
 use crate::fault::{JobError, LineError};
 use crate::image::image_of;
@@ -13,7 +11,7 @@ use crate::schedule::schedule_of;
 use crate::script::scripts_of;
 use crate::settings::{Keys, Making, keys_of, making_of};
 use job_model::{Job, NameCoding};
-use lower_model::{Items, Kind, LowerNode, LowerTree};
+use lower_model::{Items, LowerTree};
 use session_model::Op;
 use std::alloc::Global;
 
@@ -90,16 +88,10 @@ fn job_of(alloc: Global, octets: &[u8]) -> Result<Job, LineError>
     })
 }
 
-fn are_directories(nodes: &[LowerNode]) -> bool
-    ensures { result ≡ list_all is_directory nodes.now }
-{
-    nodes.iter().all(|node| node.kind == Kind::Dir)
-}
-
 fn is_served_so_far(job: &Job) -> bool
     ensures { result ≡ served_test job.now }
 {
-    job.names == NameCoding::Plain && job.scripts.len() == 1 && are_directories(job.image.nodes())
+    job.names == NameCoding::Plain && job.scripts.len() == 1
 }
 
 /// The job whose text these octets are; `Bad` exactly where they are the text of none that is served so far.

@@ -65,13 +65,13 @@ fn reads_the_lines_of_a_script(rt: HostRuntime) -> Result<(), Fail> {
     let Op::Mkdir(path) = &ops[0] else {
         return Err("the first operation is mkdir")?;
     };
-    let parts = path.parts.as_slice();
-    assert_eq!(rt; parts.len(), 1);
-    assert_eq!(rt; parts[0].octets(), b"a".as_slice());
+    let (name, others) = path.parts().split_first().ok_or("a name")?;
+    assert_eq!(rt; name, b"a".as_slice());
+    assert!(rt; others.is_empty());
     let Op::List(path) = &ops[1] else {
         return Err("the second operation is list")?;
     };
-    assert!(rt; path.parts.is_empty());
+    assert!(rt; path.parts().is_empty());
     Ok(())
 }
 
@@ -138,6 +138,18 @@ fn takes_the_other_place_of_metadata(rt: HostRuntime) -> Result<(), Fail> {
 }
 
 #[test]
+fn reads_an_image_with_a_file(rt: HostRuntime) -> Result<(), Fail> {
+    let image = b"image 25\nECRYIMG1\0\0\0\x01\0\x01\x01\x01f\0\0\0\0\x03abc\n";
+    let job = job_with(rt.alloc(), image, EMPTY_WORK)??;
+    let nodes = job.image.nodes();
+    assert_eq!(rt; nodes.len(), 2);
+    assert_eq!(rt; nodes[1].kind, Kind::File);
+    assert!(rt; nodes[1].attribute.is_none());
+    assert_eq!(rt; nodes[1].body.as_slice(), b"abc".as_slice());
+    Ok(())
+}
+
+#[test]
 fn refuses_a_wrong_image(rt: HostRuntime) -> Result<(), Fail> {
     for image in [
         b"".as_slice(),
@@ -150,7 +162,7 @@ fn refuses_a_wrong_image(rt: HostRuntime) -> Result<(), Fail> {
         b"image 12\nECRYIMG2\0\0\0\0\n".as_slice(),
         b"image 12\nECRYIMG1\0\0\0\0".as_slice(),
         b"image 12\nECRYIMG1\0\0\0\0 ".as_slice(),
-        b"image 22\nECRYIMG1\0\0\0\x01\0\x01\x01\x01f\0\0\0\0\0\n".as_slice(),
+        b"image 22\nECRYIMG1\0\0\0\x01\0\x01\x02\x01f\0\0\0\0\0\n".as_slice(),
     ] {
         assert!(rt; is_bad(rt.alloc(), image, EMPTY_WORK)?, "{image:?}");
     }

@@ -1,4 +1,4 @@
-//! The program `ecryptfs`: a job on standard input, its report on standard output.
+//! The program `ecryptfs`: a job on standard input, its report or its show text on standard output.
 #![tactic(auto)]
 
 mod streams;

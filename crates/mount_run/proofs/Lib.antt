@@ -1,3 +1,5 @@
 pub mod Moves
 pub mod Taken
 pub mod Serving
+pub mod Telling
+pub mod Commands

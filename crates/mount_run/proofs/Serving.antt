@@ -4,7 +4,7 @@ use Rattle.std.specs.Prelude.{IfOk}
 use Rattle.lower_model.specs.declared.node.LowerNode.{LowerNode}
 use Rattle.lower_model.specs.LowerTree.{IsLowerTree}
 use Rattle.tree_model.specs.PlainTree.{PlainTree}
-use Rattle.tree_model.specs.Shown.{shown, Carries}
+use Rattle.tree_model.specs.Shown.{shown, Carries, KeepsFiles}
 use Rattle.session_model.specs.declared.op.Op.{Op}
 use Rattle.session_model.specs.declared.op.Reply.{Reply}
 use Rattle.session_model.specs.declared.entry.TreeEntry.{TreeEntry}
@@ -31,6 +31,7 @@ pub record RanScript (job : Job) (script : List Op) (start end : PlainTree) (rep
   pub calls : AreScriptCalls (script ∷ []) (record { tree = log }) (replies ∷ [])
   pub lawful : IsLowerTree image
   pub carries : Carries image end
+  pub kept : KeepsFiles job.image end image
 
 pub served_one : (job : Job) (script : List Op) (start end : PlainTree) (replies : List Reply) (log : List TreeEntry) (image : List LowerNode) (out : List ℕ)
     → RanScript job script start end replies log image → out ≡ report_text (report_of replies log image) → Served job out
@@ -41,6 +42,7 @@ served_one job script start end replies log image out ran text = record {
     tree_history = subst (λ (t : PlainTree). IsTreeLog t log end) ran.is_shown ran.history;
     script_calls = subst (λ (scripts : List (List Op)). AreScriptCalls scripts (record { tree = log }) (replies ∷ [])) (sym ran.one) ran.calls;
     carried = record { lawful = ran.lawful; carries = ran.carries };
+    untouched = ran.kept;
   };
   text = text;
 }

@@ -1,34 +1,45 @@
 -- What the answers of a run tell of its input and its output.
-use Rattle.std.specs.Prelude.{◌≡◌, ℕ, ◌≤◌, List, length, take, Option}
+use Rattle.std.specs.Prelude.{◌≡◌, ℕ, ◌≤◌, List, length, take, Option, Some}
 use Rattle.std.specs.Io.KnownBytes.{Consumes, IsAtEnd, Appends}
 use Rattle.job_model.specs.declared.job.Job.{Job}
 use Rattle.job_model.specs.JobText.{IsJobText, most_octets}
 use Rattle.job_text.specs.Outcome.{IsNoJob}
 use Rattle.served_model.specs.Served.{Served}
+use Rattle.show_model.specs.Show.{Shows}
+use Rattle.mount_run.specs.declared.words.Command.{Command}
+use Rattle.mount_run.specs.declared.words.Command.TheVariants.{Replay, Show}
+use Rattle.mount_run.specs.Words.{command_of}
 
 -- These octets were taken from the source, and they are all that it had, unless they are more than a job may have.
 pub record Took (left_old left_new : Option (List ℕ)) (octets : List ℕ) : Type 0 where
   pub taken : Consumes left_old left_new octets
   pub all : length octets ≤ most_octets → IsAtEnd left_new
 
--- The octets taken are one whole job, and this output serves it.
-pub record TookJob (left_old left_new : Option (List ℕ)) (output : List ℕ) : Type 0 where
+-- what a command promises of its output
+abbrev pub Answers : Command → Job → List ℕ → Type 0
+Answers Replay job output = Served job output
+Answers Show job output = Shows job output
+
+-- The octets taken are one whole job, and this output is what the command that the words tell promises of it.
+pub record TookJob (words : List (List ℕ)) (left_old left_new : Option (List ℕ)) (output : List ℕ) : Type 0 where
+  pub command : Command
+  pub told : command_of words ≡ Some command
   pub job : Job
   pub octets : List ℕ
   pub took : Took left_old left_new octets
   pub text : IsJobText job octets
-  pub served : Served job output
+  pub answers : Answers command job output
 
--- An output that serves the job taken was written, all of it.
-pub record IsDone (left_old left_new written_old written_new : Option (List ℕ)) : Type 0 where
+-- Such an output was written, all of it.
+pub record IsDone (words : List (List ℕ)) (left_old left_new written_old written_new : Option (List ℕ)) : Type 0 where
   pub output : List ℕ
-  pub job : TookJob left_old left_new output
+  pub job : TookJob words left_old left_new output
   pub written : Appends written_old written_new output
 
 -- A front of such an output was written.
-pub record IsCut (left_old left_new written_old written_new : Option (List ℕ)) : Type 0 where
+pub record IsCut (words : List (List ℕ)) (left_old left_new written_old written_new : Option (List ℕ)) : Type 0 where
   pub output : List ℕ
-  pub job : TookJob left_old left_new output
+  pub job : TookJob words left_old left_new output
   pub count : ℕ
   pub written : Appends written_old written_new (take count output)
 

@@ -1,24 +1,25 @@
-ghost use Rattle.std.specs.Prelude.{◌≡◌, ◌≤◌, ◌↔◌, ◌⊎◌, ℕ, List, Some, true, false, map, string_bytes};
+ghost use Rattle.std.specs.Prelude.{◌≡◌, ◌≤◌, ◌↔◌, ◌⊎◌, ℕ, List, Some, None, map, string_bytes};
 ghost use Rattle.std.specs.Io.KnownBytes.{Keeps};
 ghost use Rattle.job_model.specs.declared.job.Job.{Job};
 ghost use Rattle.job_model.specs.JobText.{IsJobText};
 ghost use Rattle.job_text.specs.Outcome.{IsNoJob};
 ghost use Rattle.mount_run.specs.Causes.{Rose};
-ghost use Rattle.mount_run.specs.Words.{is_replay as replay_test};
+ghost use Rattle.mount_run.specs.declared.words.Command.{Command};
+ghost use Rattle.mount_run.specs.Words.{command_of as command_in};
 ghost use Rattle.mount_run.specs.Answers.{IsDone, IsCut, TookNoJob};
 
+use crate::answer::answer;
 use crate::ends::{Sink, Source};
-use crate::serve::serve;
 use crate::status::{BAD_JOB, MEMORY, OK, READ_FAULT, USAGE, WRITE_FAULT};
 use crate::stream::{TakeError, give_all, take_all};
-use crate::words::is_replay;
+use crate::words::command_of;
 use job_text::JobError;
 use std::alloc::Global;
 
 /// Does the command that the words tell, without the program's name, and answers the exit status.
 ///
-/// The only command is `replay`: it reads a job, runs its script on the tree of its image, and
-/// writes the report. The whole report is made before its first octet is written.
+/// `replay` reads a job, runs its script on the tree of its image, and writes the report. `show` reads a job and
+/// writes what the files of its image decode to. The whole output is made before its first octet is written.
 pub fn run_alone<S: Source, K: Sink>(
     alloc: Global,
     words: &[String],
@@ -27,14 +28,14 @@ pub fn run_alone<S: Source, K: Sink>(
 ) -> u8
     ensures statuses { result ≤ WRITE_FAULT }
 
-    // The input was read to its end and is one whole job, and what was written serves it.
-    ensures ok { result ≡ OK → IsDone (S.left input.old) (S.left input.new) (K.written output.old) (K.written output.new) }
+    // The input was read to its end and is one whole job, and what was written is its report or its show text.
+    ensures ok { result ≡ OK → IsDone (map string_bytes words.now) (S.left input.old) (S.left input.new) (K.written output.old) (K.written output.new) }
 
     // Memory ran out. Nothing is written.
     ensures memory { result ≡ MEMORY → Keeps (K.written output.old) (K.written output.new) }
 
     // The words are no command. Nothing is read or written.
-    ensures usage { (result ≡ USAGE) ↔ (replay_test (map string_bytes words.now) ≡ false) }
+    ensures usage { (result ≡ USAGE) ↔ (command_in (map string_bytes words.now) ≡ None) }
     ensures usage_alone { result ≡ USAGE → Keeps (S.left input.old) (S.left input.new) × Keeps (K.written output.old) (K.written output.new) }
 
     // The input is no job. Nothing is written.
@@ -47,30 +48,30 @@ pub fn run_alone<S: Source, K: Sink>(
 
     // A write failed. A front of the output is written.
     ensures write_fault { result ≡ WRITE_FAULT → Rose (K.count output.old) (K.count output.new) }
-    ensures cut { result ≡ WRITE_FAULT → IsCut (S.left input.old) (S.left input.new) (K.written output.old) (K.written output.new) }
+    ensures cut { result ≡ WRITE_FAULT → IsCut (map string_bytes words.now) (S.left input.old) (S.left input.new) (K.written output.old) (K.written output.new) }
 
     // Where no read and no write failed, a job is done and anything else is refused, unless memory ran out.
-    ensures job_is_done { (octets : List ℕ) (job : Job) → S.left input.old ≡ Some octets → IsJobText job octets
-        → replay_test (map string_bytes words.now) ≡ true → (Rose (S.count input.old) (S.count input.new) → ⊥)
+    ensures job_is_done { (command : Command) (octets : List ℕ) (job : Job) → S.left input.old ≡ Some octets → IsJobText job octets
+        → command_in (map string_bytes words.now) ≡ Some command → (Rose (S.count input.old) (S.count input.new) → ⊥)
         → (Rose (K.count output.old) (K.count output.new) → ⊥) → (result ≡ OK) ⊎ (result ≡ MEMORY) }
-    ensures no_job_is_refused { (octets : List ℕ) → S.left input.old ≡ Some octets → IsNoJob octets
-        → replay_test (map string_bytes words.now) ≡ true → (Rose (S.count input.old) (S.count input.new) → ⊥)
+    ensures no_job_is_refused { (command : Command) (octets : List ℕ) → S.left input.old ≡ Some octets → IsNoJob octets
+        → command_in (map string_bytes words.now) ≡ Some command → (Rose (S.count input.old) (S.count input.new) → ⊥)
         → (result ≡ BAD_JOB) ⊎ (result ≡ MEMORY) }
 {
-    if !is_replay(words) {
+    let Some(command) = command_of(words) else {
         return USAGE;
-    }
+    };
     let octets = match take_all(alloc, input) {
         Ok(octets) => octets,
         Err(TakeError::Failed) => return READ_FAULT,
         Err(TakeError::Memory) => return MEMORY,
     };
-    let report = match serve(alloc, &octets) {
-        Ok(report) => report,
+    let made = match answer(alloc, command, octets) {
+        Ok(made) => made,
         Err(JobError::Bad) => return BAD_JOB,
         Err(JobError::Memory) => return MEMORY,
     };
-    match give_all(output, &report) {
+    match give_all(output, &made) {
         Ok(()) => OK,
         Err(_) => WRITE_FAULT,
     }

@@ -1,43 +1,39 @@
-ghost use Rattle.std.specs.Prelude.{◌≡◌, length, IfOk, Err};
-ghost use Rattle.job_model.specs.declared.job.Job.{Job as JobValue};
+ghost use Rattle.std.specs.Prelude.{◌≡◌, ◌∷◌, [], length, IfOk};
 ghost use Rattle.job_model.specs.Job.{IsJob};
-ghost use Rattle.job_model.specs.JobText.{IsJobText};
-ghost use Rattle.job_text.specs.Outcome.{IsNoJob};
 ghost use Rattle.served_model.specs.Served.{Served};
 
-use job_text::{Job, JobError, read_job};
+use job_text::Job;
 use lower_model::Items;
 use one_session::run_script;
 use plain_names::{carrying_tree, shown_tree};
 use report_text::write_report;
+use session_model::Op;
 use std::alloc::{AllocError, Global};
 
 /// The longest name in a mount with plain names, in octets.
 const LONGEST_NAME: usize = 255;
 
-/// The report of a job with one session, whose script runs on the tree that the image shows.
-fn report_of(alloc: Global, job: &Job) -> Result<Vec<u8>, AllocError>
-    requires lawful { IsJob job.now }
-    requires one_session { length job.now.scripts ≡ 1 }
-    ensures { IfOk result (λ report. Served job.now report.items) }
+// The one script.
+fn only_script(scripts: Items<Items<Op>>) -> Vec<Op>
+    requires { length scripts ≡ 1 }
+    ensures { scripts ≡ result.items ∷ [] }
 {
-    let [script] = job.scripts.as_slice() else {
-        unreachable!()
-    };
-    let mut tree = shown_tree(alloc, &job.image, LONGEST_NAME)?;
-    let ran = run_script(alloc, &mut tree, script.as_slice())?;
-    let image = carrying_tree(alloc, &tree)?;
-    write_report(alloc, &[Items::from_vec(ran.replies)], &ran.log, &image)
+    let mut scripts = scripts.into_vec();
+    match scripts.pop() {
+        Some(script) => script.into_vec(),
+        None => unreachable!(),
+    }
 }
 
-/// The report that serves the job with this text; `Bad` exactly where the octets are the text of none.
-pub fn serve(alloc: Global, octets: &[u8]) -> Result<Vec<u8>, JobError>
-    ensures served { IfOk result (λ report. (job : JobValue) × IsJobText job octets.now × Served job report.items) }
-    ensures bad { result ≡ Err JobError.Bad → IsNoJob octets.now }
+/// The report of a job with one session, whose script runs on the tree that the image shows.
+pub fn serve(alloc: Global, job: Job) -> Result<Vec<u8>, AllocError>
+    requires lawful { IsJob job }
+    requires one_session { length job.scripts ≡ 1 }
+    ensures { IfOk result (λ report. Served job report.items) }
 {
-    let job = read_job(alloc, octets)?;
-    match report_of(alloc, &job) {
-        Ok(report) => Ok(report),
-        Err(_) => Err(JobError::Memory),
-    }
+    let Job { image, scripts, .. } = job;
+    let mut tree = shown_tree(alloc, &image, LONGEST_NAME)?;
+    let ran = run_script(alloc, &mut tree, only_script(scripts))?;
+    let after = carrying_tree(alloc, &tree, &image)?;
+    write_report(alloc, &[Items::from_vec(ran.replies)], &ran.log, &after)
 }

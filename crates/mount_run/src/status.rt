@@ -1,3 +1,6 @@
+ghost use Rattle.std.specs.Prelude.{◌≡◌};
+ghost use Rattle.mount_run.specs.Status.{status_word};
+
 /// The job was done, and its output is written.
 pub const OK: u8 = 0;
 
@@ -17,7 +20,9 @@ pub const READ_FAULT: u8 = 4;
 pub const WRITE_FAULT: u8 = 5;
 
 /// What a status other than `OK` is called on standard error.
-pub fn status_name(status: u8) -> &'static str {
+pub fn status_name(status: u8) -> &'static str
+    ensures { result.now ≡ status_word status }
+{
     match status {
         OK => "ok",
         MEMORY => "memory",

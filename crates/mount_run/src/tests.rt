@@ -3,7 +3,7 @@ use std::alloc::{AllocError, Global};
 use std::test::Fail;
 
 /// A job on this image, whose one session has these script lines.
-fn job(alloc: Global, image: &[u8], lines: &[&str]) -> Result<Vec<u8>, AllocError> {
+pub fn job(alloc: Global, image: &[u8], lines: &[&str]) -> Result<Vec<u8>, AllocError> {
     let mut octets = Vec::new(alloc);
     octets.extend_from_slice(b"ecryptfs-job 1\npassphrase 74657374\nsalt 0011223344556677\n")?;
     octets.extend_from_slice(b"namesalt 0011223344556677\nnames plain\nmeta header\nrandom ")?;
@@ -23,7 +23,7 @@ fn job(alloc: Global, image: &[u8], lines: &[&str]) -> Result<Vec<u8>, AllocErro
 const EMPTY_IMAGE: &[u8] = b"ECRYIMG1\x00\x00\x00\x00";
 
 /// What `run_alone` answers to one word and writes, where these reads and writes fail.
-fn answer(
+pub fn answer(
     alloc: Global,
     word: &str,
     octets: Vec<u8>,
@@ -123,7 +123,7 @@ fn a_second_write_that_fails_leaves_a_front(rt: HostRuntime) -> Result<(), Fail>
 fn other_words_are_no_command(rt: HostRuntime) -> Result<(), Fail> {
     let alloc = rt.alloc();
     for word in [
-        "", "Replay", "replay ", "mount", "show", "make", "--help", "help", "--",
+        "", "Replay", "replay ", "mount", "shows", "make", "--help", "help", "--",
     ] {
         let (status, written) = answer(alloc, word, job(alloc, EMPTY_IMAGE, &[])?, &[], &[])?;
         assert_eq!(rt; status, USAGE, "{word}");

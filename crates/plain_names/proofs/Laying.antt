@@ -1,28 +1,30 @@
 -- A tree that is being laid out.
-use Rattle.std.proofs.Common.{◌≡◌, ℕ, ◌+◌, ◌<◌, ◌≤◌, ◌≢◌, List, [], ◌∷◌, ◌++◌, length, get_or, Option, Some, None, refl, sym, ap, subst, ◌∙◌, append_assoc, arith, inl, inr}
+use Rattle.std.proofs.Common.{◌≡◌, ℕ, ◌+◌, ◌<◌, ◌≤◌, ◌≢◌, List, [], ◌∷◌, ◌++◌, length, get_or, Option, Some, None, Ok, refl, sym, ap, subst, ◌∙◌, append_assoc, arith, inl, inr}
 use Rattle.std.specs.Prelude.{slice_get}
 use Rattle.std.proofs.lemmas.Bool.{cases_eq}
 use Rattle.std.proofs.lemmas.List.{length_push}
 use Rattle.std.proofs.lemmas.Option.{slice_get_read, slice_get_within, same_Some}
-use Rattle.lower_model.specs.LowerTree.{root_path, AreEntries, HoldsOctets, IsRoot, IsLowerTree}
+use Rattle.lower_model.specs.LowerTree.{root_path, AreEntries, IsRoot, IsLowerTree}
 use Rattle.lower_model.specs.declared.kind.Kind.{Kind}
 use Rattle.lower_model.specs.declared.kind.Kind.TheVariants as kinds
 use Rattle.lower_model.specs.declared.node.LowerNode.{LowerNode}
 use Rattle.tree_model.specs.declared.place.Directory.{Directory}
 use Rattle.tree_model.specs.declared.place.Place.{Place}
 use Rattle.tree_model.specs.declared.place.Place.TheVariants.{Dir, File, Nothing}
-use Rattle.tree_model.specs.Names.{node_of}
-use Rattle.tree_model.specs.Walk.{kind_of, kind_at}
-use Rattle.tree_model.specs.IsTree.{IsTree, IsNode, IsDirectory, RisesBehind, node_in}
-use Rattle.tree_model.specs.Shown.{shown_places}
-use Rattle.plain_names.specs.declared.carrying.Open.{Open}
+use Rattle.tree_model.specs.Names.{node_of, RisesBehind}
+use Rattle.tree_model.specs.Walk.{walk, kind_of, kind_at}
+use Rattle.tree_model.specs.IsTree.{IsTree, IsNode, IsDirectory, node_in}
+use Rattle.tree_model.specs.Shown.{shown_places, octets_of}
+use Rattle.tree_model.specs.Listing.{shown_in}
+use Rattle.plain_names.specs.Laid.{Remaining, octets_kept, entry_node}
 use Rattle.plain_names.proofs.Standing.{names_rise}
 use Rattle.plain_names.proofs.Traced.{Traced, pending, traced_few, traced_more, traced_root}
-use Rattle.plain_names.proofs.Carried.{carried}
+use Rattle.plain_names.proofs.Kept.{Kept, kept_root, kept_more, kept_holds}
+use Rattle.plain_names.proofs.Carried.{carried, files_kept}
 use Rattle.plain_names.proofs.Opens.{RiseWithin, RiseWithin-split, RiseWithin-push, RiseWithin-wider, rest_of, rest_of-behind, rest_of-own, rest_of-other, Follows, Follows-pop, opens, next_entry, path_after, AreEntries-push, path_after-push}
 
 -- Nodes of a tree in preorder, as far as they are laid out, with the directories whose entries are being laid out.
-pub record Laying (places : List Place) (nodes : List LowerNode) (os : List Open) : Type 0 where
+pub record Laying (before : List LowerNode) (places : List Place) (nodes : List LowerNode) (os : List Remaining) : Type 0 where
   pub root : LowerNode
   pub entries : List LowerNode
   pub origin : List ℕ
@@ -32,17 +34,7 @@ pub record Laying (places : List Place) (nodes : List LowerNode) (os : List Open
   pub numbers : RiseWithin 0 os (1 + length entries)
   pub follows : Follows os (path_after root_path 1 entries)
   pub traced : Traced places root entries (rest_of os) origin
-
--- the entry of the lower tree for one of the plain tree
-abbrev pub entry_node : ℕ → Kind → List ℕ → LowerNode
-entry_node parent kind name = record { parent = parent; kind = kind; name = name; attribute = None; body = [] }
-
--- what a directory at this place shows
-abbrev pub shown_in : Option Place → List (List ℕ × ℕ)
-shown_in (Some (Dir d)) = d.shown
-shown_in (Some File) = []
-shown_in (Some Nothing) = []
-shown_in None = []
+  pub kept : Kept before places (root ∷ entries) origin
 
 shown_in-rises : (places : List Place) → IsTree places → (n : ℕ) (p : Option Place) → slice_get places n ≡ p → RisesBehind [] (shown_in p)
 shown_in-rises places tree n (Some (Dir d)) e = tree.ordered n d e
@@ -63,8 +55,8 @@ root_is_dir places tree place is none = no_dir place none (root_place places tre
     no_dir File none h = h
     no_dir Nothing none h = h
 
-pub laying_root : (places : List Place) → IsTree places → (place : Place) → place ≡ get_or places 0 place → (d : Directory) → place ≡ Dir d → (root : LowerNode) → IsRoot root → Laying places (root ∷ []) (record { number = 0; rest = d.shown } ∷ [])
-laying_root places tree place is d dir root is_root =
+pub laying_root : (before : List LowerNode) (places : List Place) → IsTree places → (place : Place) → place ≡ get_or places 0 place → (d : Directory) → place ≡ Dir d → (root : LowerNode) → IsRoot root → Laying before places (root ∷ []) (record { number = 0; rest = d.shown } ∷ [])
+laying_root before places tree place is d dir root is_root =
     let at : slice_get places 0 ≡ Some (Dir d) = (root_place places tree place is).0 ∙ ap Some dir in
     record {
       root = root;
@@ -76,24 +68,26 @@ laying_root places tree place is d dir root is_root =
       numbers = (omega arith, omega arith);
       follows = (refl, tree.ordered 0 d at, tt);
       traced = traced_root places root (rest_of (record { number = 0; rest = d.shown } ∷ [])) (ap kind_of at ∙ ap Some (sym is_root.1)) (λ a. ap (λ (p : Option Place). node_in p a) (sym at));
+      kept = kept_root before places root tree.root;
     }
 
-pub laying_few : (places : List Place) (nodes : List LowerNode) (os : List Open) → Laying places nodes os → length nodes ≤ length places
-laying_few places nodes os h = omega (arith, ap length h.parts, traced_few places h.root h.entries (rest_of os) h.origin h.traced)
+pub laying_few : (before : List LowerNode) (places : List Place) (nodes : List LowerNode) (os : List Remaining) → Laying before places nodes os → length nodes ≤ length places
+laying_few before places nodes os h = omega (arith, ap length h.parts, traced_few places h.root h.entries (rest_of os) h.origin h.traced)
 
 -- all is laid out
-pub laying_end : (places : List Place) (nodes : List LowerNode) → IsTree places → Laying places nodes [] → IsLowerTree nodes × ((path : List (List ℕ)) → kind_at (shown_places nodes) path ≡ kind_at places path)
-laying_end places nodes tree h =
+pub laying_end : (before : List LowerNode) (places : List Place) (nodes : List LowerNode) → IsTree places → Laying before places nodes [] → IsLowerTree nodes × ((path : List (List ℕ)) → kind_at (shown_places nodes) path ≡ kind_at places path)
+    × ((path : List (List ℕ)) (file node : ℕ) → walk places 0 path ≡ Ok file → slice_get places file ≡ Some File → walk (shown_places nodes) 0 path ≡ Ok node → octets_of (slice_get nodes node) ≡ octets_of (slice_get before file))
+laying_end before places nodes tree h =
     let few : length h.entries ≤ 4095 = omega (arith, tree.few, traced_few places h.root h.entries (rest_of []) h.origin h.traced) in
-    let same = carried places h.root h.entries h.origin h.traced (names_rise h.root h.entries h.is_root.1 h.are) in
-    rw h.parts ((h.is_root, few, h.are), same)
+    let rises = names_rise h.root h.entries h.is_root.1 h.are in
+    rw h.parts ((h.is_root, few, h.are), carried places h.root h.entries h.origin h.traced rises, files_kept places h.root h.entries h.origin h.traced rises before h.kept)
 
-module _ (places : List Place) (tree : IsTree places) (nodes : List LowerNode) (os : List Open) (o : Open) (h : Laying places nodes (os ++ o ∷ [])) where
+module _ (before : List LowerNode) (lawful : IsLowerTree before) (places : List Place) (tree : IsTree places) (nodes : List LowerNode) (os : List Remaining) (o : Remaining) (h : Laying before places nodes (os ++ o ∷ [])) where
   numbers : RiseWithin 0 os o.number × (o.number < 1 + length h.entries)
   numbers = RiseWithin-split 0 os o (1 + length h.entries) h.numbers
 
   -- the last of the directories is done
-  pub laying_pop : o.rest ≡ [] → Laying places nodes os
+  pub laying_pop : o.rest ≡ [] → Laying before places nodes os
   laying_pop empty =
       let same : (k : ℕ) → rest_of (os ++ o ∷ []) k ≡ rest_of os k = λ k. elim (cases_eq k o.number) [
         | inl e ↦ rw e (rest_of-own 0 os o numbers.0 ∙ empty ∙ sym (rest_of-behind 0 os o.number o.number numbers.0 (omega arith)))
@@ -110,6 +104,7 @@ module _ (places : List Place) (tree : IsTree places) (nodes : List LowerNode) (
         numbers = RiseWithin-wider 0 os o.number (1 + length h.entries) numbers.0 (omega (arith, numbers.1));
         follows = Follows-pop os o (path_after root_path 1 h.entries) h.follows;
         traced = subst (λ (r : ℕ → List (List ℕ × ℕ)). Traced places h.root h.entries r h.origin) rest h.traced;
+        kept = h.kept;
       }
 
   module _ (name : List ℕ) (node : ℕ) (es : List (List ℕ × ℕ)) (left : o.rest ≡ (name, node) ∷ es) where
@@ -121,36 +116,39 @@ module _ (places : List Place) (tree : IsTree places) (nodes : List LowerNode) (
     next_node = tree.there (get_or h.origin o.number 0) name node (pending places h.root h.entries (rest_of (os ++ o ∷ [])) h.origin h.traced o.number name node es numbers.1 rest_here).1
 
     -- the directories that are open behind the next entry, of this kind
-    abbrev pub open_behind : Kind → List Open
+    abbrev pub open_behind : Kind → List Remaining
     open_behind kind = os ++ record { number = o.number; rest = es } ∷ opens kind (1 + length h.entries) (shown_in (slice_get places node))
 
-    abbrev pub left_behind : Open
+    abbrev pub left_behind : Remaining
     left_behind = record { number = o.number; rest = es }
 
     numbers_more : (kind : Kind) → RiseWithin 0 (open_behind kind) (1 + length h.entries + 1)
     numbers_more kinds.File = RiseWithin-push 0 os left_behind (1 + length h.entries + 1) numbers.0 (omega (arith, numbers.1))
     numbers_more kinds.Dir =
-        let inner : Open = record { number = 1 + length h.entries; rest = shown_in (slice_get places node) } in
+        let inner : Remaining = record { number = 1 + length h.entries; rest = shown_in (slice_get places node) } in
         let first : RiseWithin 0 (os ++ left_behind ∷ []) (1 + length h.entries) = RiseWithin-push 0 os left_behind (1 + length h.entries) numbers.0 numbers.1 in
-        subst (λ (l : List Open). RiseWithin 0 l (1 + length h.entries + 1)) (append_assoc os (left_behind ∷ []) (inner ∷ [])) (RiseWithin-push 0 (os ++ left_behind ∷ []) inner (1 + length h.entries + 1) first (omega arith))
+        subst (λ (l : List Remaining). RiseWithin 0 l (1 + length h.entries + 1)) (append_assoc os (left_behind ∷ []) (inner ∷ [])) (RiseWithin-push 0 (os ++ left_behind ∷ []) inner (1 + length h.entries + 1) first (omega arith))
 
-    octets : (kind : Kind) → HoldsOctets kind None []
-    octets kinds.Dir = (refl, refl)
-    octets kinds.File = (tt, tt, omega arith)
+    abbrev pub node_laid : Kind → LowerNode
+    node_laid kind = entry_node o.number kind name (octets_kept kind (slice_get before node))
+
+    new_kept : (kind : Kind) → kind_of (slice_get places node) ≡ Some kind → slice_get places node ≡ Some File → octets_of (Some (node_laid kind)) ≡ octets_of (slice_get before node)
+    new_kept kinds.Dir e file = absurd (let is : kind_of (Some File) ≡ Some kinds.Dir = ap kind_of (sym file) ∙ e in cc)
+    new_kept kinds.File e file = refl
 
     rest_own : (kind : Kind) → rest_of (open_behind kind) o.number ≡ es
     rest_own kinds.File = rest_of-own 0 os left_behind numbers.0
     rest_own kinds.Dir =
-        let inner : Open = record { number = 1 + length h.entries; rest = shown_in (slice_get places node) } in
+        let inner : Remaining = record { number = 1 + length h.entries; rest = shown_in (slice_get places node) } in
         let ne : o.number ≢ 1 + length h.entries = λ q. omega (arith, numbers.1) in
-        ap (λ (l : List Open). rest_of l o.number) (sym (append_assoc os (left_behind ∷ []) (inner ∷ []))) ∙ rest_of-other (os ++ left_behind ∷ []) inner o.number ne ∙ rest_of-own 0 os left_behind numbers.0
+        ap (λ (l : List Remaining). rest_of l o.number) (sym (append_assoc os (left_behind ∷ []) (inner ∷ []))) ∙ rest_of-other (os ++ left_behind ∷ []) inner o.number ne ∙ rest_of-own 0 os left_behind numbers.0
 
     rest_others : (kind : Kind) (k : ℕ) → k < 1 + length h.entries → k ≢ o.number → rest_of (open_behind kind) k ≡ rest_of (os ++ o ∷ []) k
     rest_others kinds.File k lt ne = rest_of-other os left_behind k ne ∙ sym (rest_of-other os o k ne)
     rest_others kinds.Dir k lt ne =
-        let inner : Open = record { number = 1 + length h.entries; rest = shown_in (slice_get places node) } in
+        let inner : Remaining = record { number = 1 + length h.entries; rest = shown_in (slice_get places node) } in
         let apart : k ≢ 1 + length h.entries = λ q. omega arith in
-        ap (λ (l : List Open). rest_of l k) (sym (append_assoc os (left_behind ∷ []) (inner ∷ []))) ∙ rest_of-other (os ++ left_behind ∷ []) inner k apart ∙ rest_of-other os left_behind k ne ∙ sym (rest_of-other os o k ne)
+        ap (λ (l : List Remaining). rest_of l k) (sym (append_assoc os (left_behind ∷ []) (inner ∷ []))) ∙ rest_of-other (os ++ left_behind ∷ []) inner k apart ∙ rest_of-other os left_behind k ne ∙ sym (rest_of-other os o k ne)
 
     no_entries : (p : Option Place) (a : List ℕ) → kind_of p ≡ Some kinds.File → None ≡ node_in p a
     no_entries (Some (Dir d)) a e = absurd cc
@@ -169,16 +167,16 @@ module _ (places : List Place) (tree : IsTree places) (nodes : List LowerNode) (
         let first : RiseWithin 0 (os ++ left_behind ∷ []) (1 + length h.entries) = RiseWithin-push 0 os left_behind (1 + length h.entries) numbers.0 numbers.1 in
         ap (node_of a) (rest_of-behind 0 (os ++ left_behind ∷ []) (1 + length h.entries) (1 + length h.entries) first (omega arith)) ∙ no_entries (slice_get places node) a e
     rest_new kinds.Dir e a =
-        let inner : Open = record { number = 1 + length h.entries; rest = shown_in (slice_get places node) } in
+        let inner : Remaining = record { number = 1 + length h.entries; rest = shown_in (slice_get places node) } in
         let first : RiseWithin 0 (os ++ left_behind ∷ []) (1 + length h.entries) = RiseWithin-push 0 os left_behind (1 + length h.entries) numbers.0 numbers.1 in
-        ap (λ (l : List Open). node_of a (rest_of l (1 + length h.entries))) (sym (append_assoc os (left_behind ∷ []) (inner ∷ []))) ∙ ap (node_of a) (rest_of-own 0 (os ++ left_behind ∷ []) inner first) ∙ shown_entries (slice_get places node) a
+        ap (λ (l : List Remaining). node_of a (rest_of l (1 + length h.entries))) (sym (append_assoc os (left_behind ∷ []) (inner ∷ []))) ∙ ap (node_of a) (rest_of-own 0 (os ++ left_behind ∷ []) inner first) ∙ shown_entries (slice_get places node) a
 
     -- the next entry is laid out
-    pub laying_more : (kind : Kind) → kind_of (slice_get places node) ≡ Some kind → Laying places (nodes ++ entry_node o.number kind name ∷ []) (open_behind kind)
+    pub laying_more : (kind : Kind) → kind_of (slice_get places node) ≡ Some kind → Laying before places (nodes ++ node_laid kind ∷ []) (open_behind kind)
     laying_more kind e =
-        let x = entry_node o.number kind name in
+        let x = node_laid kind in
         let path = path_after root_path 1 h.entries in
-        let n = next_entry path os o x node es (1 + length h.entries) (shown_in (slice_get places node)) numbers.0 h.follows refl left (octets kind) (shown_in-rises places tree node (slice_get places node) refl) in
+        let n = next_entry path os o x node es (1 + length h.entries) (shown_in (slice_get places node)) numbers.0 h.follows refl left (kept_holds before lawful node kind) (shown_in-rises places tree node (slice_get places node) refl) in
         let len : 1 + length h.entries + 1 ≡ 1 + length (h.entries ++ x ∷ []) = omega (arith, length_push h.entries x) in
         record {
           root = h.root;
@@ -195,21 +193,25 @@ module _ (places : List Place) (tree : IsTree places) (nodes : List LowerNode) (
             others = rest_others kind;
             own = rest_new kind e;
           });
+          kept = kept_more before places (h.root ∷ h.entries) h.origin x node (omega (arith, h.traced.many)) h.kept (new_kept kind e);
         }
 
--- One turn: the last of the open directories, and the entry that is taken of it.
-pub record Turn (places : List Place) (nodes : List LowerNode) (stack os : List Open) (o : Open) (name : List ℕ) (node : ℕ) (es : List (List ℕ × ℕ)) : Type 0 where
+-- One turn: the last of the open directories, the entry that is taken of it, and what is left.
+pub record Turn (before : List LowerNode) (places : List Place) (nodes : List LowerNode) (stack os : List Remaining) (left : Remaining) (name : List ℕ) (node : ℕ) : Type 0 where
+  pub lawful : IsLowerTree before
   pub tree : IsTree places
-  pub laying : Laying places nodes stack
-  pub popped : stack ≡ os ++ o ∷ []
-  pub taken : o.rest ≡ (name, node) ∷ es
+  pub laying : Laying before places nodes stack
+  pub taken : stack ≡ os ++ record { number = left.number; rest = (name, node) ∷ left.rest } ∷ []
 
-module _ {places : List Place} {nodes : List LowerNode} {stack os : List Open} {o : Open} {name : List ℕ} {node : ℕ} {es : List (List ℕ × ℕ)} (t : Turn places nodes stack os o name node es) where
-  here : Laying places nodes (os ++ o ∷ [])
-  here = subst (Laying places nodes) t.popped t.laying
+module _ {before : List LowerNode} {places : List Place} {nodes : List LowerNode} {stack os : List Remaining} {left : Remaining} {name : List ℕ} {node : ℕ} (t : Turn before places nodes stack os left name node) where
+  abbrev first : Remaining
+  first = record { number = left.number; rest = (name, node) ∷ left.rest }
+
+  here : Laying before places nodes (os ++ first ∷ [])
+  here = subst (Laying before places nodes) t.taken t.laying
 
   pub turn_node : IsNode (slice_get places node)
-  turn_node = next_node places t.tree nodes os o here name node es t.taken
+  turn_node = next_node before t.lawful places t.tree nodes os first here name node left.rest refl
 
   node_within : (p : Option Place) → slice_get places node ≡ p → IsNode p → node < length places
   node_within (Some p) e h = slice_get_within places node p e
@@ -218,25 +220,25 @@ module _ {places : List Place} {nodes : List LowerNode} {stack os : List Open} {
   pub turn_within : node < length places
   turn_within = node_within (slice_get places node) refl turn_node
 
-  module _ (place : Place) (kind : Kind) (nodes' : List LowerNode) (is : place ≡ get_or places node place) (kind_is : kind_of (Some place) ≡ Some kind) (pushed : nodes' ≡ nodes ++ entry_node o.number kind name ∷ []) where
+  module _ (place : Place) (kind : Kind) (nodes' : List LowerNode) (is : place ≡ get_or places node place) (kind_is : kind_of (Some place) ≡ Some kind) (pushed : nodes' ≡ nodes ++ entry_node left.number kind name (octets_kept kind (slice_get before node)) ∷ []) where
     at : slice_get places node ≡ Some place
     at = slice_get_read places (length places) node place refl turn_within is
 
-    more : Laying places nodes' (os ++ record { number = o.number; rest = es } ∷ opens kind (length nodes) (shown_in (Some place)))
+    more : Laying before places nodes' (os ++ left ∷ opens kind (length nodes) (shown_in (Some place)))
     more =
         let len : 1 + length here.entries ≡ length nodes = omega (arith, ap length here.parts) in
-        let next = laying_more places t.tree nodes os o here name node es t.taken kind (ap kind_of at ∙ kind_is) in
-        let next' : Laying places nodes' (os ++ record { number = o.number; rest = es } ∷ opens kind (1 + length here.entries) (shown_in (slice_get places node))) = subst (λ (l : List LowerNode). Laying places l (os ++ record { number = o.number; rest = es } ∷ opens kind (1 + length here.entries) (shown_in (slice_get places node)))) (sym pushed) next in
-        subst (λ (p : Option Place). Laying places nodes' (os ++ record { number = o.number; rest = es } ∷ opens kind (length nodes) (shown_in p))) at (subst (λ (n : ℕ). Laying places nodes' (os ++ record { number = o.number; rest = es } ∷ opens kind n (shown_in (slice_get places node)))) len next')
+        let next = laying_more before t.lawful places t.tree nodes os first here name node left.rest refl kind (ap kind_of at ∙ kind_is) in
+        let next' : Laying before places nodes' (os ++ left ∷ opens kind (1 + length here.entries) (shown_in (slice_get places node))) = subst (λ (l : List LowerNode). Laying before places l (os ++ left ∷ opens kind (1 + length here.entries) (shown_in (slice_get places node)))) (sym pushed) next in
+        subst (λ (p : Option Place). Laying before places nodes' (os ++ left ∷ opens kind (length nodes) (shown_in p))) at (subst (λ (n : ℕ). Laying before places nodes' (os ++ left ∷ opens kind n (shown_in (slice_get places node)))) len next')
 
     -- a directory is opened
-    pub turn_dir : (d : Directory) (number : ℕ) (stack' : List Open) → place ≡ Dir d → number ≡ length nodes → stack' ≡ (os ++ record { number = o.number; rest = es } ∷ []) ++ record { number = number; rest = d.shown } ∷ [] → Laying places nodes' stack'
+    pub turn_dir : (d : Directory) (number : ℕ) (stack' : List Remaining) → place ≡ Dir d → number ≡ length nodes → stack' ≡ (os ++ left ∷ []) ++ record { number = number; rest = d.shown } ∷ [] → Laying before places nodes' stack'
     turn_dir d number stack' dir count after =
         let is_dir : kind ≡ kinds.Dir = same_Some kind kinds.Dir (sym kind_is ∙ ap (λ (p : Place). kind_of (Some p)) dir) in
-        let both = subst (λ (p : Place). Laying places nodes' (os ++ record { number = o.number; rest = es } ∷ opens kind (length nodes) (shown_in (Some p)))) dir more in
-        let dirs = subst (λ (k : Kind). Laying places nodes' (os ++ record { number = o.number; rest = es } ∷ opens k (length nodes) d.shown)) is_dir both in
-        let numbered = subst (λ (n : ℕ). Laying places nodes' (os ++ record { number = o.number; rest = es } ∷ record { number = n; rest = d.shown } ∷ [])) (sym count) dirs in
-        subst (Laying places nodes') (sym (append_assoc os (record { number = o.number; rest = es } ∷ []) (record { number = number; rest = d.shown } ∷ [])) ∙ sym after) numbered
+        let both = subst (λ (p : Place). Laying before places nodes' (os ++ left ∷ opens kind (length nodes) (shown_in (Some p)))) dir more in
+        let dirs = subst (λ (k : Kind). Laying before places nodes' (os ++ left ∷ opens k (length nodes) d.shown)) is_dir both in
+        let numbered = subst (λ (n : ℕ). Laying before places nodes' (os ++ left ∷ record { number = n; rest = d.shown } ∷ [])) (sym count) dirs in
+        subst (Laying before places nodes') (sym (append_assoc os (left ∷ []) (record { number = number; rest = d.shown } ∷ [])) ∙ sym after) numbered
 
     is_file : (p : Place) (k : Kind) → kind_of (Some p) ≡ Some k → ((d : Directory) → p ≡ Dir d → ⊥) → k ≡ kinds.File
     is_file (Dir d) k e none = absurd (none d refl)
@@ -244,7 +246,7 @@ module _ {places : List Place} {nodes : List LowerNode} {stack os : List Open} {
     is_file Nothing k e none = absurd cc
 
     -- a file is not
-    pub turn_file : (stack' : List Open) → ((d : Directory) → place ≡ Dir d → ⊥) → stack' ≡ os ++ record { number = o.number; rest = es } ∷ [] → Laying places nodes' stack'
+    pub turn_file : (stack' : List Remaining) → ((d : Directory) → place ≡ Dir d → ⊥) → stack' ≡ os ++ left ∷ [] → Laying before places nodes' stack'
     turn_file stack' none after =
-        let files = subst (λ (k : Kind). Laying places nodes' (os ++ record { number = o.number; rest = es } ∷ opens k (length nodes) (shown_in (Some place)))) (is_file place kind kind_is none) more in
-        subst (Laying places nodes') (sym after) files
+        let files = subst (λ (k : Kind). Laying before places nodes' (os ++ left ∷ opens k (length nodes) (shown_in (Some place)))) (is_file place kind kind_is none) more in
+        subst (Laying before places nodes') (sym after) files

@@ -3,6 +3,8 @@ pub mod Entries
 pub mod Standing
 pub mod Places
 pub mod Traced
+pub mod Kept
 pub mod Carried
 pub mod Opens
 pub mod Laying
+pub mod Listed

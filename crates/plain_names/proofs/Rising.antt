@@ -9,8 +9,7 @@ use Rattle.std.specs.Cmp.Lexicographic.{slice_cmp, nat_list_cmp_total}
 use Rattle.std.proofs.lemmas.List.{append-nil}
 use Rattle.lower_model.specs.Name.{is_name}
 use Rattle.lower_model.specs.LowerTree.{comes_before}
-use Rattle.tree_model.specs.Names.{is_named, node_of, put_entry}
-use Rattle.tree_model.specs.IsTree.{RisesBehind}
+use Rattle.tree_model.specs.Names.{is_named, node_of, put_entry, RisesBehind}
 use Rattle.tree_model.specs.Shown.{put_entries}
 
 less : (o : Ordering) → is_lt o ≡ true → o ≡ Less

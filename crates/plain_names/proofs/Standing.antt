@@ -10,8 +10,7 @@ use Rattle.lower_model.specs.declared.kind.Kind.{Kind}
 use Rattle.lower_model.specs.declared.kind.Kind.TheVariants as kinds
 use Rattle.lower_model.specs.declared.node.LowerNode.{LowerNode}
 use Rattle.lower_model.specs.declared.node.OpenDir.{OpenDir}
-use Rattle.tree_model.specs.Names.{node_of}
-use Rattle.tree_model.specs.IsTree.{RisesBehind}
+use Rattle.tree_model.specs.Names.{node_of, RisesBehind}
 use Rattle.tree_model.specs.Shown.{entries_in}
 use Rattle.plain_names.proofs.Rising.{RisesTo, RisesTo-push, RisesBehind-from_rises_to, absent_behind}
 use Rattle.plain_names.proofs.Entries.{entries_in-own, entries_in-other, entries_in-none, AllIn, AllIn-push, AllIn-snoc, slice_get-append, slice_get-push}
@@ -61,10 +60,10 @@ open_new root entries x low e =
       rises = rw (entries_in-none (1 + length entries) 1 (entries ++ x ∷ []) low) refl;
     }
 
-level_here : (d : OpenDir) (path : List OpenDir) (k : ℕ) → d.node ≡ k → level_in (d ∷ path) k ≡ 0
+pub level_here : (d : OpenDir) (path : List OpenDir) (k : ℕ) → d.node ≡ k → level_in (d ∷ path) k ≡ 0
 level_here d path k e = rw (eq-eqb d.node k e) refl
 
-level_further : (d : OpenDir) (path : List OpenDir) (k : ℕ) → (d.node ≡ k → ⊥) → level_in (d ∷ path) k ≡ suc (level_in path k)
+pub level_further : (d : OpenDir) (path : List OpenDir) (k : ℕ) → (d.node ≡ k → ⊥) → level_in (d ∷ path) k ≡ suc (level_in path k)
 level_further d path k ne = rw (ne_eqb d.node k ne) (omega arith)
 
 -- an open directory, with what an entry knows of it

@@ -10,9 +10,9 @@ use Rattle.std.proofs.lemmas.Map.Steps.{length-le_from_distinct_below}
 use Rattle.lower_model.specs.declared.kind.Kind.{Kind}
 use Rattle.lower_model.specs.declared.node.LowerNode.{LowerNode}
 use Rattle.tree_model.specs.declared.place.Place.{Place}
-use Rattle.tree_model.specs.Names.{is_named, node_of}
+use Rattle.tree_model.specs.Names.{is_named, node_of, RisesBehind}
 use Rattle.tree_model.specs.Walk.{kind_of}
-use Rattle.tree_model.specs.IsTree.{IsTree, RisesBehind, node_in}
+use Rattle.tree_model.specs.IsTree.{IsTree, node_in}
 use Rattle.tree_model.specs.Shown.{entries_in}
 use Rattle.tree_model.proofs.NameLemmas.{is_named_same, is_named_is}
 use Rattle.plain_names.proofs.Rising.{absent_itself}

@@ -2,9 +2,11 @@
 #![tactic(auto)]
 
 mod carrying;
+mod listing;
 mod shown;
 
 pub use carrying::carrying_tree;
+pub use listing::listed_paths;
 pub use shown::shown_tree;
 
 #[cfg(test)]

@@ -1,1 +1,2 @@
 pub mod EntryFields
+pub mod ItemFields

@@ -24,11 +24,11 @@ fn put_tree_call(out: &mut Vec<u8>, call: &TreeCall) -> Result<(), AllocError>
     match call {
         TreeCall::Mkdir(path) => {
             put_word(out, "mkdir ")?;
-            put_path(out, path.parts.as_slice())
+            put_path(out, path)
         }
         TreeCall::List(path) => {
             put_word(out, "list ")?;
-            put_path(out, path.parts.as_slice())
+            put_path(out, path)
         }
     }
 }

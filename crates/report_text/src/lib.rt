@@ -1,11 +1,13 @@
 //! Writes the report of a run: the replies of each session, the tree's history, and the image of
-//! the lower tree after the run.
+//! the lower tree after the run; and the show text of an image.
 #![tactic(auto)]
 
 mod entry;
 mod reply;
 mod report;
+mod show;
 #[cfg(test)]
 mod tests;
 
 pub use report::write_report;
+pub use show::write_show;

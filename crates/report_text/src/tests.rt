@@ -1,9 +1,11 @@
 use crate::entry::put_entry_line;
 use crate::reply::put_reply_line;
-use crate::write_report;
+use crate::{write_report, write_show};
 use lower_image::read_image;
 use lower_model::{Items, Kind};
+use packet_model::BadCause;
 use session_model::{Reply, TreeEntry};
+use show_model::{ShowItem, ShowWhat};
 use std::process::Abort;
 use std::test::Fail;
 use tree_model::{Name, Path, Shown, TreeCall, TreeRefusal, TreeReply};
@@ -14,11 +16,11 @@ fn name(rt: &(impl Abort + AllocGlobal), octets: &[u8]) -> Result<Name, Fail> {
 }
 
 fn path(rt: &(impl Abort + AllocGlobal), parts: &[&[u8]]) -> Result<Path, Fail> {
-    let mut names = Items::new(rt.alloc());
+    let mut path = Path::root(rt.alloc());
     for part in parts {
-        names.push(name(rt, part)?)?;
+        path.push(&name(rt, part)?)?;
     }
-    Ok(Path { parts: names })
+    Ok(path)
 }
 
 fn names(rt: &(impl Abort + AllocGlobal), entries: &[(Kind, &[u8])]) -> Result<TreeReply, Fail> {
@@ -167,5 +169,41 @@ fn the_report_of_two_sessions(rt: HostRuntime) -> Result<(), Fail> {
     let text =
         b"ecryptfs-report 1\nsession 0 0\nsession 1 1\nerr memory\ntree 0\nimage 12\nECRYIMG1\0\0\0\0\nend\n";
     assert_eq!(rt; report.as_slice(), text.as_slice());
+    Ok(())
+}
+
+#[test]
+fn show_lines(rt: HostRuntime) -> Result<(), Fail> {
+    let alloc = rt.alloc();
+    let octets = Items::from_slice(alloc, &[0x12, 0xff])?;
+    let theirs = [1, 2, 3, 4, 5, 6, 7, 8];
+    let table = [
+        (ShowWhat::Dir, "d 7 /a%20b\n"),
+        (ShowWhat::Empty, "f 7 /a%20b empty\n"),
+        (ShowWhat::Good(Items::new(alloc)), "f 7 /a%20b good 0 -\n"),
+        (ShowWhat::Good(octets), "f 7 /a%20b good 2 12ff\n"),
+        (
+            ShowWhat::Bad(BadCause::Marker(0xab, 1)),
+            "f 7 /a%20b bad marker 000000ab 00000001\n",
+        ),
+        (
+            ShowWhat::Bad(BadCause::WrongKey(theirs, [0; 8])),
+            "f 7 /a%20b bad wrongkey 0102030405060708 0000000000000000\n",
+        ),
+        (
+            ShowWhat::Bad(BadCause::ShortData(12_287, 12_288)),
+            "f 7 /a%20b bad shortdata 12287 12288\n",
+        ),
+    ];
+    for (what, line) in table {
+        let item = ShowItem {
+            node: 7,
+            path: path(&rt, &[b"a b"])?,
+            what,
+        };
+        let text = write_show(alloc, &[item])?;
+        let wanted = format!(in alloc; "ecryptfs-show 1\n{line}end\n")?;
+        assert_eq!(rt; text.as_slice(), wanted.as_bytes());
+    }
     Ok(())
 }

@@ -16,13 +16,13 @@ use Rattle.served_model.specs.ReportText.{Report, report_text, entry_line, reply
 -- ---- a directory `a` is made below an empty root, and listed
 
 abbrev made_a : TreeEntry
-made_a = record { session = 0; op = 0; call = calls.Mkdir (record { parts = codes "a" ∷ [] }); reply = replies.Done; before = 0; after = 0 }
+made_a = record { session = 0; op = 0; call = calls.Mkdir (codes "a" ∷ []); reply = replies.Done; before = 0; after = 0 }
 
 abbrev names_of_root : TreeReply
 names_of_root = replies.Names (record { kind = kinds.Dir; name = codes "a" } ∷ [])
 
 abbrev listed_root : TreeEntry
-listed_root = record { session = 0; op = 1; call = calls.List (record { parts = [] }); reply = names_of_root; before = 0; after = 0 }
+listed_root = record { session = 0; op = 1; call = calls.List []; reply = names_of_root; before = 0; after = 0 }
 
 entry_of_mkdir : entry_line made_a ≡ codes "0 0 0 0 mkdir /a = ok\n"
 unfolding digits

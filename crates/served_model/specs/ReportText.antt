@@ -4,7 +4,6 @@ use Rattle.std.specs.List.{flat_map}
 use Rattle.lower_model.specs.declared.node.LowerNode.{LowerNode}
 use Rattle.lower_model.specs.declared.kind.Kind.{Kind}
 use Rattle.lower_model.specs.declared.kind.Kind.TheVariants.{Dir, File}
-use Rattle.tree_model.specs.declared.path.Path.{Path}
 use Rattle.tree_model.specs.declared.call.Shown.{Shown}
 use Rattle.tree_model.specs.declared.call.TreeCall.{TreeCall}
 use Rattle.tree_model.specs.declared.call.TreeCall.TheVariants as calls
@@ -48,8 +47,8 @@ reply_fields (Tree reply) = tree_reply reply
 reply_fields Memory = codes "err" ∷ codes "memory" ∷ []
 
 abbrev pub tree_call : TreeCall → List (List ℕ)
-tree_call (calls.Mkdir p) = codes "mkdir" ∷ path p.parts ∷ []
-tree_call (calls.List p) = codes "list" ∷ path p.parts ∷ []
+tree_call (calls.Mkdir p) = codes "mkdir" ∷ path p ∷ []
+tree_call (calls.List p) = codes "list" ∷ path p ∷ []
 
 -- the session, its operation, the counts of faults around the turn, the call and the reply
 abbrev pub entry_line : TreeEntry → List ℕ

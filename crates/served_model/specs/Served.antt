@@ -1,17 +1,14 @@
 -- What it means that an output serves a job.
-use Rattle.std.specs.Prelude.{ℕ, ◌≡◌, List}
+use Rattle.std.specs.Prelude.{◌≡◌, ℕ, List}
 use Rattle.lower_model.specs.declared.node.LowerNode.{LowerNode}
 use Rattle.lower_model.specs.LowerTree.{IsLowerTree}
 use Rattle.tree_model.specs.PlainTree.{PlainTree}
-use Rattle.tree_model.specs.Shown.{shown, Carries}
+use Rattle.tree_model.specs.Shown.{shown, Carries, KeepsFiles}
 use Rattle.session_model.specs.TreeLog.{IsTreeLog}
 use Rattle.session_model.specs.ScriptCalls.{AreScriptCalls}
 use Rattle.job_model.specs.declared.job.Job.{Job}
+use Rattle.job_model.specs.Job.{longest_name}
 use Rattle.served_model.specs.ReportText.{Report, report_text}
-
--- the longest name in a mount with plain names
-abbrev pub longest_name : ℕ
-longest_name = 255
 
 -- a lower tree that carries this plain tree
 pub record CarriesTree (nodes : List LowerNode) (tree : PlainTree) : Type 0 where
@@ -26,6 +23,8 @@ pub record Serves (job : Job) (report : Report) (end : PlainTree) : Type 0 where
   pub script_calls : AreScriptCalls job.scripts report.histories report.sessions
   -- the printed image carries the tree at the end
   pub carried : CarriesTree report.image end
+  -- and its files have the octets that they had in the job's image
+  pub untouched : KeepsFiles job.image end report.image
 
 -- The output is the text of a report that serves the job.
 pub record Served (job : Job) (output : List ℕ) : Type 0 where

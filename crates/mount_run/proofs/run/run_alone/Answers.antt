@@ -1,11 +1,11 @@
-use Rattle.std.proofs.Common.{◌≡◌, ℕ, List, Option, Some, subst, sym, rules, ◌∙◌}
+use Rattle.std.proofs.Common.{ℕ, List, Option, subst, sym, rules}
 use Rattle.std.specs.Io.KnownBytes.{Consumes}
 use Rattle.job_model.specs.JobText.{IsJobText}
 use Rattle.mount_run.proofs.Taken.{all_taken}
 use Rattle.mount_run.proofs.run.run_alone.Goals as goal
 
 pub returns-in-Err-Bad-clause-job_is_done : goal.returns-in-Err-Bad-clause-job_is_done
-returns-in-Err-Bad-clause-job_is_done g c octets job has text word calm quiet =
+returns-in-Err-Bad-clause-job_is_done g c command octets job has text word calm quiet =
     let taken = subst (λ (l : Option (List ℕ)). Consumes l (g.S.Source.left c.take_all.new.input) c.in-Ok.octets.items) has c.in-Ok.ensures.taken in
     let all = all_taken octets c.in-Ok.octets.items (g.S.Source.left c.take_all.new.input) taken c.in-Ok.ensures.whole text.short in
-    absurd (c.in-Err-Bad.ensures.bad (search rules) job (subst (λ (o : List ℕ). IsJobText job o) (sym (c.deref.ensures.value ∙ all)) text))
+    absurd (c.in-Err-Bad.ensures.bad (search rules) job (subst (λ (o : List ℕ). IsJobText job o) (sym all) text))

@@ -1,4 +1,4 @@
-use Rattle.std.proofs.Common.{arith, length, drop, ◌-◌}
+use Rattle.std.proofs.Common.{arith}
 use Rattle.std.proofs.lemmas.List.{take_rest, length-drop}
 use Rattle.mount_run.proofs.Moves.{appends_on}
 use Rattle.mount_run.proofs.stream.give_all.Goals as goal

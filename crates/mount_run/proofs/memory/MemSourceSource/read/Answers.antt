@@ -1,4 +1,4 @@
-use Rattle.std.proofs.Common.{◌≡◌, [], ℕ, ◌+◌, ◌≤◌, ◌<◌, length, drop, take, ◌++◌, arith, min, ap, sym, ◌∙◌}
+use Rattle.std.proofs.Common.{◌≡◌, ◌+◌, ◌≤◌, length, drop, ◌++◌, arith, ap, sym, ◌∙◌}
 use Rattle.std.proofs.lemmas.List.{nil_from_length, length-drop, take_rest, length-append, length-take-le}
 use Rattle.mount_run.specs.Memory.{MemInput}
 use Rattle.mount_run.proofs.Moves.{copied_front}

@@ -1,0 +1,14 @@
+use Rattle.report_text.proofs.ItemFields.{item_line-parts}
+use Rattle.report_text.proofs.show.put_item.Goals as goal
+
+pub returns : goal.returns
+returns c =
+    rw (
+      item_line-parts c.args.out.now.items c.args.item.now,
+      ← c.kind_letter.ensures,
+      ← c.in_ok-put_word.ensures {u = tt},
+      ← c.in_ok-put_number_field.ensures {u = tt},
+      ← c.in_ok-put_space.ensures {u = tt},
+      ← c.in_ok-put_path.ensures {u = tt},
+      ← c.in_ok-put_told.ensures {u = tt},
+    ) c.put_line_end.ensures

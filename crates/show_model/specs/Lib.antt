@@ -1,0 +1,3 @@
+pub mod CauseText
+pub mod ShowText
+pub mod Show
