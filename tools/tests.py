@@ -1,0 +1,472 @@
+#!/usr/bin/env python3
+"""The tests of tools/pack and tools/unpack, and of the trip from a lower tree over the program's show to a folder.
+
+    tools/tests.py [PROGRAM]        PROGRAM is the built program, by default crates/mount_prog/out/mount_prog
+
+Where the program isn't built, the trip goes on with the show texts that stand beside the jobs of tests/linux. The last line is
+`tools: N passed, M failed`, and the status is 1 where any test failed.
+"""
+import errno
+import io
+import os
+import re
+import socket
+import struct
+import subprocess
+import sys
+import tarfile
+import tempfile
+import unittest
+
+TOOLS = os.path.dirname(os.path.abspath(__file__))
+TOP = os.path.dirname(TOOLS)
+LINUX = os.path.join(TOP, "tests", "linux")
+PROGRAM = os.path.abspath(sys.argv[1]) if sys.argv[1:] else os.path.join(TOP, "crates", "mount_prog", "out", "mount_prog")
+XATTR = "SCHILY.xattr.user.ecryptfs"
+
+# The texts as docs/TEXTS.md has them, written out by hand.
+HEAD = b"ecryptfs-job 1\npassphrase 74657374\nsalt 0011223344556677\nnamesalt 0011223344556677\nnames plain\nmeta header\nrandom "
+TAIL = b"\nsessions 1\nscript 0\nschedule\nend\n"
+
+
+def job(image):
+    return HEAD + b"0" * 64 + b"\nimage %d\n" % len(image) + image + TAIL
+
+
+def image_in(octets):
+    found = re.search(rb"\nimage ([0-9]+)\n", octets)
+    return octets[found.end() :][: int(found[1])]
+
+
+def entries_of(image):
+    """The entries of an image as (path, None) for a directory and (path, (attribute, body)) for a file."""
+    stream = io.BytesIO(image)
+    stream.seek(8)
+    number = lambda octets: int.from_bytes(stream.read(octets), "big")
+    parts, found = [], []
+    for _ in range(number(4)):
+        level, kind, length = number(2), number(1), number(1)
+        parts[level - 1 :] = [stream.read(length)]
+        attribute = stream.read(number(4)) if kind and number(1) else None
+        found.append((b"/".join(parts), (attribute, stream.read(number(4))) if kind else None))
+    return found
+
+
+def shown_files(text):
+    """The contents of the good files of a show text, by their paths."""
+    rows = (line.split() for line in text.splitlines())
+    return {row[2][1:]: bytes.fromhex(row[5].decode().strip("-")) for row in rows if row[3:4] == [b"good"]}
+
+
+def read(path):
+    with open(path, "rb") as file:
+        return file.read()
+
+
+def files_below(folder):
+    folder = os.fsencode(folder)
+    paths = [os.path.join(at, name) for at, _, names in os.walk(folder) for name in names]
+    return {os.path.relpath(path, folder): read(path) for path in paths}
+
+
+class Tools(unittest.TestCase):
+    def setUp(self):
+        room = tempfile.TemporaryDirectory()
+        self.addCleanup(room.cleanup)
+        self.room = room.name
+        self.write("passphrase", b"test\n")
+
+    def at(self, name):
+        return os.path.join(self.room, name)
+
+    def write(self, name, octets):
+        with open(self.at(name), "wb") as file:
+            file.write(octets)
+        return self.at(name)
+
+    def tar(self, *members, format=tarfile.PAX_FORMAT):
+        """A tar file of (name, octets or None for a directory or a type of member, attribute)."""
+        with tarfile.open(self.at("tree.tar"), "w", format=format) as tar:
+            for name, what, *attribute in members:
+                member = tarfile.TarInfo(name)
+                if isinstance(what, io.BytesIO):
+                    member.size = len(what.getvalue())
+                else:
+                    member.type = what
+                member.linkname = "a" if what in (tarfile.SYMTYPE, tarfile.LNKTYPE) else ""
+                if attribute:
+                    member.pax_headers = {XATTR: attribute[0].decode("utf-8", "surrogateescape")}
+                tar.addfile(member, what if isinstance(what, io.BytesIO) else None)
+        return self.at("tree.tar")
+
+    def run_tool(self, name, *words, given=b""):
+        command = [sys.executable, os.path.join(TOOLS, name), *words]
+        return subprocess.run(command, input=given, capture_output=True, cwd=self.room, start_new_session=True)
+
+    def pack(self, tree, *words):
+        return self.run_tool("pack", tree, "--passphrase-file", self.at("passphrase"), *words)
+
+    def packed(self, tree, *words):
+        ran = self.pack(tree, *words)
+        self.assertEqual((ran.returncode, ran.stderr), (0, b""))
+        return ran.stdout
+
+    def refused(self, ran, why):
+        """One line on standard error that says why, status 1, and nothing written."""
+        self.assertEqual(ran.returncode, 1)
+        self.assertEqual(ran.stdout, b"")
+        self.assertEqual(ran.stderr.count(b"\n"), 1, ran.stderr)
+        self.assertIn(why, ran.stderr)
+
+
+class Pack(Tools):
+    def test_an_empty_folder_is_the_empty_image(self):
+        os.mkdir(self.at("tree"))
+        self.assertEqual(self.packed("tree"), job(b"ECRYIMG1\0\0\0\0"))
+
+    def test_a_directory_and_a_file_stand_as_entries(self):
+        os.makedirs(self.at("tree/b"))
+        self.write("tree/b/g", b"xy")
+        self.write("tree/a", b"")
+        entries = b"\0\1\1\1a\0\0\0\0\0" + b"\0\1\0\1b" + b"\0\2\1\1g\0\0\0\0\2xy"
+        self.assertEqual(self.packed("tree"), job(b"ECRYIMG1\0\0\0\3" + entries))
+
+    def test_entries_stand_in_octet_order(self):
+        names = [b"\xff", b"a", b"a.", b"a-", b"B", "ä".encode()]
+        os.makedirs(self.at("tree/a"))
+        for name in names:
+            if name != b"a":
+                os.mkdir(os.path.join(os.fsencode(self.at("tree")), name))
+        self.write("tree/a/z", b"")
+        paths = [path for path, _ in entries_of(image_in(self.packed("tree")))]
+        self.assertEqual(paths, [b"B", b"a", b"a/z", b"a-", b"a.", "ä".encode(), b"\xff"])
+
+    def test_the_attribute_of_a_file_in_a_folder(self):
+        os.mkdir(self.at("tree"))
+        try:
+            os.setxattr(self.write("tree/f", b""), "user.ecryptfs", b"\0\xff\n")
+        except OSError as error:
+            if error.errno != errno.ENOTSUP:
+                raise
+            self.skipTest("the file system has no attributes")
+        self.assertEqual(image_in(self.packed("tree")), b"ECRYIMG1\0\0\0\1\0\1\1\1f\1\0\0\0\3\0\xff\n\0\0\0\0")
+
+    def test_the_attribute_of_a_file_in_a_tar_file(self):
+        tree = self.tar(("f", io.BytesIO(b""), b"\0\xff\n=\xc3\xa4"), ("g", io.BytesIO(b"x")))
+        entries = b"\0\1\1\1f\1\0\0\0\6\0\xff\n=\xc3\xa4\0\0\0\0" + b"\0\1\1\1g\0\0\0\0\1x"
+        self.assertEqual(self.packed(tree), job(b"ECRYIMG1\0\0\0\2" + entries))
+
+    def test_names_that_are_no_text_come_out_of_a_tar_file_as_they_are(self):
+        for format in (tarfile.PAX_FORMAT, tarfile.GNU_FORMAT):
+            name = b"./\xff\xc3\xa4 ".decode("utf-8", "surrogateescape")
+            tree = self.tar(("./", tarfile.DIRTYPE), (name, tarfile.DIRTYPE), format=format)
+            self.assertEqual(entries_of(image_in(self.packed(tree))), [(b"\xff\xc3\xa4 ", None)])
+
+    def test_directories_that_a_tar_file_does_not_name(self):
+        tree = self.tar(("a/b/f", io.BytesIO(b"1")))
+        self.assertEqual(entries_of(image_in(self.packed(tree))), [(b"a", None), (b"a/b", None), (b"a/b/f", (None, b"1"))])
+
+    def test_the_tar_program_and_pack_agree(self):
+        os.makedirs(self.at("tree/a" + "b" * 150))
+        file = self.write("tree/a" + "b" * 150 + "/f", b"123")
+        try:
+            os.setxattr(file, "user.ecryptfs", bytes(range(256)))
+        except OSError as error:
+            if error.errno != errno.ENOTSUP:
+                raise
+        words = ["--format=pax", "--xattrs", "--xattrs-include=user.*", "-C", self.at("tree"), "-cf", self.at("made.tar"), "."]
+        subprocess.run(["tar", *words], check=True)
+        self.assertEqual(self.packed("made.tar"), self.packed("tree"))
+
+    def test_4095_entries_are_packed_and_4096_refused(self):
+        os.mkdir(self.at("tree"))
+        for number in range(4095):
+            os.mkdir(self.at(f"tree/{number}"))
+        self.assertEqual(image_in(self.packed("tree"))[8:12], b"\0\0\x0f\xff")
+        self.write("tree/f", b"")
+        self.refused(self.pack("tree"), b"more than 4095 entries")
+
+    def test_names_of_255_octets_are_packed_and_of_256_refused(self):
+        self.packed(self.tar(("a" * 255, tarfile.DIRTYPE)))
+        self.refused(self.pack(self.tar(("a" * 256, tarfile.DIRTYPE))), b"more than 255 octets")
+
+    def test_attributes_of_65536_octets_are_packed_and_of_65537_refused(self):
+        self.packed(self.tar(("f", io.BytesIO(b""), bytes(65_536))))
+        self.refused(self.pack(self.tar(("f", io.BytesIO(b""), bytes(65_537)))), b"the attribute has more than 65536 octets")
+
+    def test_links_and_devices_in_a_folder_are_refused(self):
+        makers = {
+            "link": lambda path: os.symlink(self.at("passphrase"), path),
+            "folder": lambda path: os.symlink(self.at("other"), path),
+            "pipe": os.mkfifo,
+            "socket": lambda path: socket.socket(socket.AF_UNIX).bind(path),
+        }
+        os.mkdir(self.at("tree"))
+        os.mkdir(self.at("other"))
+        for name, make in makers.items():
+            with self.subTest(name):
+                make(self.at("tree/" + name))
+                self.refused(self.pack("tree", "-o", self.at("job")), f"pack: /{name}: it is neither".encode())
+                self.assertFalse(os.path.exists(self.at("job")))
+                os.remove(self.at("tree/" + name))
+
+    def test_a_second_name_of_a_file_is_refused(self):
+        os.mkdir(self.at("tree"))
+        os.link(self.write("tree/f", b""), self.at("tree/g"))
+        self.refused(self.pack("tree"), b"it is a link to another file of the tree")
+
+    def test_links_and_devices_in_a_tar_file_are_refused(self):
+        for kind in (tarfile.SYMTYPE, tarfile.LNKTYPE, tarfile.CHRTYPE, tarfile.BLKTYPE, tarfile.FIFOTYPE):
+            with self.subTest(kind):
+                self.refused(self.pack(self.tar(("a", io.BytesIO(b"")), ("b", kind))), b"neither a file nor a directory")
+
+    def test_a_tree_over_the_limit_of_a_job_is_refused(self):
+        os.mkdir(self.at("tree"))
+        with open(self.at("tree/f"), "wb") as file:
+            file.truncate(268_435_457)
+        self.refused(self.pack("tree", "-o", self.at("job")), b"more than 268435456 octets")
+        self.assertFalse(os.path.exists(self.at("job")))
+        os.truncate(self.at("tree/f"), 268_435_456)
+        self.refused(self.pack("tree"), b"the job has more than 268435456 octets")
+
+    def test_paths_of_a_tar_file_that_leave_the_tree_are_refused(self):
+        for name in ("../f", "a/../../f", "/f"):
+            with self.subTest(name):
+                self.refused(self.pack(self.tar((name, io.BytesIO(b"")))), b"leads out of the tree")
+
+    def test_what_a_tar_file_names_twice_is_refused(self):
+        self.refused(self.pack(self.tar(("f", io.BytesIO(b"")), ("./f", io.BytesIO(b"")))), b"stands in the tree twice")
+        self.refused(self.pack(self.tar(("f", io.BytesIO(b"")), ("f/g", io.BytesIO(b"")))), b"a part of the path is a file")
+
+    def test_a_tar_file_that_is_cut_or_damaged_is_refused(self):
+        whole = read(self.tar(("f", io.BytesIO(b"x" * 600)), ("g", io.BytesIO(b"y"))))
+        self.refused(self.pack(self.write("cut.tar", whole[:1000])), b"pack: ")
+        damaged = whole[:1536] + b"?" * 512 + whole[2048:]
+        self.refused(self.pack(self.write("damaged.tar", damaged)), b"cut or damaged")
+        self.refused(self.pack(self.write("none.tar", b"no tar file")), b"no tar file that can be read")
+
+    def test_a_tree_that_is_not_there_is_refused(self):
+        self.refused(self.pack("away"), b"away: No such file or directory")
+
+    def test_a_line_end_in_a_name_leaves_the_refusal_on_one_line(self):
+        os.mkdir(self.at("tree"))
+        os.symlink("f", self.at("tree/a\nb"))
+        self.refused(self.pack("tree"), b"/a%0ab")
+
+    def test_the_output_file_is_for_its_owner_alone(self):
+        os.mkdir(self.at("tree"))
+        self.assertEqual(self.packed("tree", "-o", self.at("job")), b"")
+        self.assertEqual(read(self.at("job")), job(b"ECRYIMG1\0\0\0\0"))
+        self.assertEqual(os.stat(self.at("job")).st_mode & 0o077, 0)
+
+    def test_the_salt_of_a_file(self):
+        os.mkdir(self.at("tree"))
+        self.write("salt", b"0123456789abcdef\n")
+        self.assertIn(b"\nsalt 0123456789abcdef\n", self.packed("tree", "--salt-file", self.at("salt")))
+        for wrong in (b"", b"0123456789abcde\n", b"0123456789abcdeg\n"):
+            self.write("salt", wrong)
+            self.refused(self.pack("tree", "--salt-file", self.at("salt")), b"a salt has 16 hexadecimal digits")
+
+    def test_passphrases_of_1_to_64_octets(self):
+        os.mkdir(self.at("tree"))
+        self.write("passphrase", b"p" * 64 + b"\n")
+        self.assertIn(b"\npassphrase " + b"70" * 64 + b"\n", self.packed("tree"))
+        for wrong in (b"\n", b"p" * 65):
+            self.write("passphrase", wrong)
+            self.refused(self.pack("tree"), b"a passphrase has 1 to 64 octets")
+
+    def test_passphrase_and_salt_are_asked_for(self):
+        os.mkdir(self.at("tree"))
+        # (without a terminal the questions and answers go over the standard streams)
+        self.assertEqual(self.run_tool("pack", "tree", given=b"test\n\n").stdout, job(b"ECRYIMG1\0\0\0\0"))
+        ran = self.run_tool("pack", "tree", given=b"test\n0123456789abcdef\n")
+        self.assertIn(b"\nsalt 0123456789abcdef\n", ran.stdout)
+        self.assertEqual(self.run_tool("pack", "tree").returncode, 1)
+
+    def test_no_argument_takes_a_passphrase(self):
+        os.mkdir(self.at("tree"))
+        for words in (["--passphrase", "test"], ["--salt", "0011223344556677"], ["test"]):
+            self.assertNotEqual(self.run_tool("pack", "tree", *words).returncode, 0)
+
+
+class Unpack(Tools):
+    def unpack(self, *lines, folder="folder"):
+        text = b"".join(line + b"\n" for line in (b"ecryptfs-show 1", *lines, b"end"))
+        return self.run_tool("unpack", folder, given=text)
+
+    def refused(self, ran, why):
+        super().refused(ran, why)
+        self.assertFalse(os.path.exists(self.at("folder")))
+
+    def test_directories_and_contents_are_written(self):
+        lines = [b"d 1 /a", b"f 2 /a/b%20c good 3 00ff0a", b"d 3 /a/d", b"f 4 /e good 0 -", b"f 5 /f empty"]
+        ran = self.unpack(*lines)
+        self.assertEqual((ran.returncode, ran.stdout, ran.stderr), (0, b"", b""))
+        self.assertEqual(files_below(self.at("folder")), {b"a/b c": b"\0\xff\n", b"e": b"", b"f": b""})
+        self.assertTrue(os.path.isdir(self.at("folder/a/d")))
+
+    def test_a_name_may_have_any_octet_that_a_name_has(self):
+        name = bytes(octet for octet in range(1, 256) if octet != 0x2F)
+        spelling = b"".join(b"%c" % octet if 0x21 <= octet <= 0x7E and octet != 0x25 else b"%%%02x" % octet for octet in name)
+        self.assertEqual(self.unpack(b"f 1 /" + spelling + b" good 1 41").returncode, 0)
+        self.assertEqual(files_below(self.at("folder")), {name: b"A"})
+
+    def test_bad_and_foreign_entries_are_named_and_left_out(self):
+        ran = self.unpack(b"d 1 /a", b"f 2 /a/b bad marker 11223344 2da384b0", b"f 3 /a/c empty", b"x 4 /a/d")
+        self.assertEqual((ran.returncode, ran.stderr.count(b"\n")), (0, 2))
+        self.assertIn(b"bad marker 11223344 2da384b0: /a/b\n", ran.stderr)
+        self.assertIn(b"foreign: /a/d\n", ran.stderr)
+        self.assertEqual(files_below(self.at("folder")), {b"a/c": b""})
+
+    def test_an_empty_folder_is_taken_and_another_refused(self):
+        os.mkdir(self.at("empty"))
+        self.assertEqual(self.unpack(b"f 1 /f empty", folder="empty").returncode, 0)
+        self.refused(self.unpack(b"f 1 /g empty", folder="empty"), b"empty: the folder isn't empty")
+        self.assertEqual(os.listdir(self.at("empty")), ["f"])
+        self.refused(self.unpack(b"f 1 /g empty", folder="passphrase"), b"passphrase: it is no folder")
+
+    def test_paths_that_would_leave_the_folder_are_refused(self):
+        for path in (b"/..", b"/../f", b"/a/../../f", b"/.", b"/a%2ff", b"/..%2ff", b"/a%00", b"//f", b"/", b"/a/", b"//"):
+            with self.subTest(path):
+                ran = self.unpack(b"d 1 /a", b"f 2 /g empty", b"f 3 " + path + b" empty")
+                self.refused(ran, b"line 4: the path would leave the folder")
+        for path in (b"f", b"../f", b"a/f", b"C:/f"):
+            with self.subTest(path):
+                self.refused(self.unpack(b"d 1 /a", b"f 2 " + path + b" empty"), b"line 3: the path doesn't begin at the root")
+
+    def test_paths_have_one_spelling(self):
+        for path in (b"/%61", b"/%2E%2e", b"/%2e%2e", b"/%", b"/%2", b"/a%zz", b"/a\x01", b"/\xff", b"/a\t"):
+            with self.subTest(path):
+                self.refused(self.unpack(b"f 1 " + path + b" empty"), b"line 2: the path isn't spelled as one")
+
+    def test_a_name_of_256_octets_is_refused(self):
+        self.refused(self.unpack(b"d 1 /" + b"a" * 256), b"more than 255 octets")
+
+    def test_paths_that_the_system_cannot_take_are_refused_before_anything_is_written(self):
+        path = b""
+        lines = []
+        for number in range(1, 21):
+            path += b"/" + b"a" * 250
+            lines.append(b"d %d %s" % (number, path))
+        self.refused(self.unpack(*lines), b"longer than the system takes")
+
+    def test_entries_below_what_is_no_directory_are_refused(self):
+        self.refused(self.unpack(b"f 1 /a/b empty"), b"the directory above it isn't there")
+        self.refused(self.unpack(b"f 1 /a empty", b"f 2 /a/b empty"), b"the directory above it isn't there")
+
+    def test_a_path_that_stands_twice_is_refused(self):
+        self.refused(self.unpack(b"d 1 /a", b"f 2 /a empty"), b"stands there twice")
+
+    def test_lines_that_are_none_are_refused(self):
+        contents = [b"", b"0", b"0 00", b"1 -", b"1 0", b"1 0A", b"2 00", b"01 00", b"1 00 ", b"99999999999 -"]
+        lines = [b"f 1 /a good " + content for content in contents]
+        lines += [b"f 1 /a", b"f 1 /a ", b"f 1 /a bad", b"f 1 /a bad ", b"f 1 /a bad \x1b[2J", b"f 1 /a Empty"]
+        lines += [b"", b"d", b"d 1", b"d 1 /a ", b"d 1 /a b", b"d 0 /a", b"d  1 /a", b"d 1  /a", b"e 1 /a", b"end"]
+        for line in lines:
+            with self.subTest(line):
+                self.refused(self.unpack(b"d 1 /d", line), b"line 3: ")
+
+    def test_texts_that_are_cut_are_refused(self):
+        whole = b"ecryptfs-show 1\nf 1 /a empty\nend\n"
+        for length in range(0, len(whole), 4):
+            self.refused(self.run_tool("unpack", "folder", given=whole[:length]), b"unpack: ")
+        self.refused(self.run_tool("unpack", "folder", given=whole + b"\n"), b"something follows it")
+
+    def test_a_show_text_of_a_file(self):
+        self.write("show", b"ecryptfs-show 1\nf 1 /a good 1 41\nend\n")
+        self.assertEqual(self.run_tool("unpack", "-i", "show", "folder").returncode, 0)
+        self.assertEqual(files_below(self.at("folder")), {b"a": b"A"})
+
+
+class Help(Tools):
+    def test_the_tools_say_that_they_are_unproved(self):
+        for name in ("pack", "unpack"):
+            ran = self.run_tool(name, "--help")
+            self.assertEqual(ran.returncode, 0)
+            self.assertIn(b"is no part of what is proved", ran.stdout)
+
+
+class Trip(Tools):
+    """Trees that Linux wrote go from a tar file or a folder into a job, over the program's show into a folder."""
+
+    def linux(self, name):
+        image = image_in(read(os.path.join(LINUX, name + ".job")))
+        text = read(os.path.join(LINUX, name + ".show"))
+        given = re.search(rb"\npassphrase ([0-9a-f]+)\n", read(os.path.join(LINUX, name + ".job")))[1]
+        self.write("passphrase", bytes.fromhex(given.decode()))
+        return image, text
+
+    def tar_of(self, image):
+        members = []
+        for path, file in entries_of(image):
+            path = path.decode("utf-8", "surrogateescape")
+            attribute, body = file or (None, None)
+            members.append((path, tarfile.DIRTYPE if file is None else io.BytesIO(body), *([] if attribute is None else [attribute])))
+        return self.tar(*members)
+
+    def folder_of(self, image):
+        os.mkdir(self.at("tree"))
+        for path, file in entries_of(image):
+            path = self.at("tree/" + path.decode())
+            if file is None:
+                os.mkdir(path)
+                continue
+            attribute, body = file
+            self.write(path, body)
+            if attribute is not None:
+                os.setxattr(path, "user.ecryptfs", attribute)
+        return self.at("tree")
+
+    def shown(self, packed, text):
+        """What the program shows of the job, or the text that was wanted where there is no program."""
+        if not sys.argv[1:] and not os.path.exists(PROGRAM):
+            print(f"(there is no program {PROGRAM}: the trip goes on with the text beside the job)")
+            return text
+        ran = subprocess.run([PROGRAM, "show"], input=packed, capture_output=True)
+        self.assertEqual((ran.returncode, ran.stderr), (0, b""))
+        return ran.stdout
+
+    def travel(self, name, tree_of):
+        image, text = self.linux(name)
+        packed = self.packed(tree_of(image))
+        self.assertEqual(image_in(packed), image)
+        shown = self.shown(packed, text)
+        self.assertEqual(shown, text)
+        self.assertEqual(self.run_tool("unpack", "folder", given=shown).returncode, 0)
+        wanted = shown_files(text)
+        self.assertEqual(len(wanted), 4)
+        self.assertEqual(files_below(self.at("folder")), wanted)
+
+    def test_a_tar_file_with_headers(self):
+        self.travel("linux_header_plain", self.tar_of)
+
+    def test_a_tar_file_with_attributes(self):
+        self.travel("linux_attribute_plain", self.tar_of)
+
+    def test_a_folder_with_headers(self):
+        self.travel("linux_header_plain", self.folder_of)
+
+    def test_a_folder_with_attributes(self):
+        try:
+            self.travel("linux_attribute_plain", self.folder_of)
+        except OSError as error:
+            if error.errno != errno.ENOTSUP:
+                raise
+            self.skipTest("the file system has no attributes")
+
+
+def main():
+    tests = unittest.defaultTestLoader.loadTestsFromModule(sys.modules[__name__])
+    count = tests.countTestCases()
+    ran = unittest.TextTestRunner(stream=sys.stdout).run(tests)
+    # (the parts of a test may fail each for itself: the test counts once)
+    bad = {getattr(test, "test_case", test).id() for test, _ in ran.failures + ran.errors}
+    left_out = len(ran.skipped)
+    for test, why in ran.skipped:
+        print(f"left out: {test.id()}: {why}")
+    print(f"tools: {count - len(bad) - left_out} passed, {len(bad)} failed")
+    return 1 if bad or count == 0 else 0
+
+
+if __name__ == "__main__":
+    sys.exit(main())
