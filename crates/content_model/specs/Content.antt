@@ -1,6 +1,6 @@
 -- What a lower file decodes to, by its body and its attribute, as Linux's eCryptfs encrypts the extents of a file.
 use Rattle.std.specs.Prelude.{ℕ, ◌≡◌, ◌<◌, ◌+◌, ◌*◌, List, [], ◌∷◌, length, take, slice_range, Option}
-use Rattle.lower_model.specs.Octets.{AreOctets}
+use Rattle.octet_model.specs.Octets.{AreOctets}
 use Rattle.cipher_model.specs.Cbc.{IsCbc}
 use Rattle.key_model.specs.ExtentIv.{root_iv, extent_iv}
 use Rattle.packet_model.specs.FileKey.{IsFileKey}

@@ -1,6 +1,6 @@
 -- Extents that are decrypted in place, one after another.
 use Rattle.std.specs.Prelude.{ℕ, ◌≡◌, ◌<◌, ◌*◌, List, take, drop}
-use Rattle.lower_model.specs.Octets.{AreOctets}
+use Rattle.octet_model.specs.Octets.{AreOctets}
 use Rattle.cipher_model.specs.Cbc.{IsCbc}
 use Rattle.key_model.specs.ExtentIv.{extent_iv}
 use Rattle.packet_model.specs.Metadata.{extent_count}

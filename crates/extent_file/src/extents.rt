@@ -1,7 +1,7 @@
 // The extents of a body.
 ghost use Rattle.std.specs.Prelude.{◌≡◌, ◌+◌, ◌*◌, ◌/◌, ◌%◌, ◌^◌, ◌<◌, ◌≤◌, List, ℕ, length, IfOk};
 ghost use Rattle.packet_model.specs.Metadata.{extent_count};
-ghost use Rattle.lower_model.specs.Octets.{AreOctets};
+ghost use Rattle.octet_model.specs.Octets.{AreOctets};
 ghost use Rattle.content_model.specs.Content.{ArePlain};
 ghost use Rattle.extent_file.specs.Steps.{AreFirstOctets, IsDecryptedTo};
 

@@ -1,7 +1,9 @@
-ghost use Rattle.std.specs.Prelude.{◌≡◌, ◌≤◌, ◌∷◌, [], ℕ, List, length};
+ghost use Rattle.std.specs.Prelude.{◌≡◌, ◌≤◌, ◌∷◌, [], ℕ, List, length, Some, Err};
 ghost use Rattle.packet_model.specs.PacketSet.{WrappedKey};
 ghost use Rattle.packet_model.specs.FileKey.{IsFileKey};
-ghost use Rattle.packet_model.specs.Metadata.{header_at, sized as sized_header};
+ghost use Rattle.packet_model.specs.Metadata.{header_at, sized as sized_header, fields_fault as first_fault};
+ghost use Rattle.packet_model.specs.declared.cause.BadCause.{BadCause as BadCauseValue};
+ghost use Rattle.file_header.specs.declared.meta.HeaderError.TheVariants.{Bad};
 ghost use Rattle.file_header.specs.Gives.{GivesMeta};
 
 use crate::fields::{fields_fault, flags_of, meta_size_of, packets_of, size_of};
@@ -18,7 +20,8 @@ pub fn read_header<R: Ring>(
     form: MetaPlace,
     ring: &R,
 ) -> Result<Meta, HeaderError>
-    ensures { GivesMeta (R.ring_kek ring.now) result (header_at form (R.ring_signature ring.now ∷ []) octets.now) }
+    ensures read { GivesMeta (R.ring_kek ring.now) result (header_at form (R.ring_signature ring.now ∷ []) octets.now) }
+    ensures early { (cause : BadCauseValue) → first_fault form octets.now ≡ Some cause → result ≡ Err (Bad cause) }
 {
     if let Some(cause) = fields_fault(form, octets) {
         return Err(HeaderError::Bad(cause));

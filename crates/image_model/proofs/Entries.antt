@@ -8,7 +8,7 @@ use Rattle.lower_model.specs.declared.kind.Kind.{Kind}
 use Rattle.lower_model.specs.declared.kind.Kind.TheVariants.{Dir, File}
 use Rattle.lower_model.specs.declared.node.LowerNode.{LowerNode}
 use Rattle.lower_model.specs.declared.node.OpenDir.{OpenDir}
-use Rattle.lower_model.specs.Octets.{AreOctets}
+use Rattle.octet_model.specs.Octets.{AreOctets}
 use Rattle.lower_model.specs.Name.{is_name}
 use Rattle.lower_model.specs.LowerTree.{comes_before, level_in, opened, path_behind, HoldsOctets, IsEntry, AreEntries}
 use Rattle.image_model.specs.Spelling.{kind_code, content, entry, entries}

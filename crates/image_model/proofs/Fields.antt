@@ -7,7 +7,7 @@ use Rattle.std.proofs.lemmas.List.{take_at, drop_at, take-append-drop, length-ap
 use Rattle.std.proofs.lemmas.Nat.{be_bytes_2, be_bytes_4, from_be_bytes-to_be_bytes_2, from_be_bytes-to_be_bytes_4}
 use Rattle.lower_model.specs.declared.kind.Kind.{Kind}
 use Rattle.lower_model.specs.declared.kind.Kind.TheVariants.{Dir, File}
-use Rattle.lower_model.specs.Octets.{AreOctets}
+use Rattle.octet_model.specs.Octets.{AreOctets}
 use Rattle.lower_model.specs.Name.{is_name}
 use Rattle.lower_model.specs.LowerTree.{comes_before, HoldsOctets}
 use Rattle.image_model.specs.declared.fault.ImageKind.TheVariants as kinds

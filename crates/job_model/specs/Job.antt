@@ -1,7 +1,7 @@
 -- What a job may hold.
 use Rattle.std.specs.Prelude.{ℕ, ◌≡◌, ◌<◌, ◌≤◌, List, length}
 use Rattle.std.specs.List.{AllByRecursion}
-use Rattle.lower_model.specs.Octets.{AreOctets}
+use Rattle.octet_model.specs.Octets.{AreOctets}
 use Rattle.lower_model.specs.LowerTree.{IsLowerTree}
 use Rattle.tree_model.specs.Path.{IsPath}
 use Rattle.session_model.specs.declared.op.Op.{Op}

@@ -5,7 +5,7 @@ use Rattle.std.specs.List.{list_all}
 use Rattle.std.proofs.lemmas.Bool.{and_parts, eqb-true, ltb-true, le-ltb, cases_Bool}
 use Rattle.std.proofs.lemmas.Option.{none-some, same_Some}
 use Rattle.hex.specs.Hex.{encode_with}
-use Rattle.lower_model.specs.Octets.{AreOctets}
+use Rattle.octet_model.specs.Octets.{AreOctets}
 use Rattle.lower_model.specs.Name.{is_name, is_name_octet}
 use Rattle.text_model.specs.Line.{hex, is_plain, name, name_octet}
 use Rattle.line_reader.specs.Fields.{IsName, sized_hex_in, escaped, octet_in, put, put_escaped, octets_in, name_in, ◌>>=◌}

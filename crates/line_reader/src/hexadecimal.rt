@@ -1,7 +1,7 @@
 ghost use Rattle.std.specs.Prelude.{◌≡◌, IfOk};
 ghost use Rattle.std.specs.Option.{option_map};
 ghost use Rattle.std.specs.List.{list_all};
-ghost use Rattle.lower_model.specs.Octets.{AreOctets};
+ghost use Rattle.octet_model.specs.Octets.{AreOctets};
 ghost use Rattle.text_model.specs.Line.{hex};
 ghost use Rattle.line_reader.specs.Fields.{Reads, AreSized, is_hex_digit, hex_in, sized_hex_in};
 

@@ -1,6 +1,6 @@
 ghost use Rattle.std.specs.Prelude.{◌≡◌, ◌<◌, ◌^◌, ◌++◌, List, length, OnOk, IfOk};
 ghost use Rattle.lower_model.specs.declared.node.LowerNode.{LowerNode};
-ghost use Rattle.lower_model.specs.Octets.{AreOctets};
+ghost use Rattle.octet_model.specs.Octets.{AreOctets};
 ghost use Rattle.lower_model.specs.LowerTree.{HoldsOctets, IsLowerTree, AreEntries, level_in, root_path};
 ghost use Rattle.image_model.specs.Spelling.{content, entry, entries, image, kind_code as code_of_kind, sized};
 

@@ -7,7 +7,7 @@ use Rattle.lower_model.specs.declared.kind.Kind.{Kind}
 use Rattle.lower_model.specs.declared.kind.Kind.TheVariants.{Dir, File}
 use Rattle.lower_model.specs.declared.node.LowerNode.{LowerNode}
 use Rattle.lower_model.specs.declared.node.OpenDir.{OpenDir}
-use Rattle.lower_model.specs.Octets.{AreOctets}
+use Rattle.octet_model.specs.Octets.{AreOctets}
 use Rattle.lower_model.specs.Name.{is_name}
 
 -- octet order; the order of two names of which one begins the other is the shorter first

@@ -1,6 +1,7 @@
 -- Sources and sinks in memory.
-use Rattle.std.specs.Prelude.{ℕ, ◌+◌, ◌-◌, ◌^◌, ◌==◌, min, Bool, List}
+use Rattle.std.specs.Prelude.{ℕ, ◌==◌, Bool, List}
 use Rattle.std.specs.List.{list_any}
+use Rattle.answer_model.specs.Count.{next_count}
 
 -- What a source in memory has left, the numbers of the calls that fail, how many calls were made, and how many of them failed.
 pub record MemInput : Type 0 where
@@ -16,10 +17,6 @@ pub record MemOutput : Type 0 where
   pub calls : ℕ
   pub faults : ℕ
 
--- the number of the next call, counted from 1; it stands still at the last value of a u64
-abbrev pub next_call : ℕ → ℕ
-next_call calls = min (calls + 1) (2 ^ 64 - 1)
-
--- whether the next call is one of those that fail
+-- whether the next call, counted from 1, is one of those that fail
 abbrev pub call_fails : List ℕ → ℕ → Bool
-call_fails fails calls = list_any (λ n. n == next_call calls) fails
+call_fails fails calls = list_any (λ n. n == next_count calls) fails

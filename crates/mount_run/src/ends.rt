@@ -1,4 +1,4 @@
-ghost use Rattle.std.specs.Prelude.{◌≡◌, ℕ, List, Option};
+ghost use Rattle.std.specs.Prelude.{◌≡◌, ℕ, List, Option, OnOk};
 ghost use Rattle.std.specs.Io.{ReadsAtMost};
 ghost use Rattle.std.specs.Io.KnownBytes.{ReadConsumes};
 ghost use Rattle.mount_run.specs.Causes.{HasCause, WritesSome};
@@ -24,7 +24,8 @@ pub trait Source {
     fn read(&mut self, to: &mut [u8]) -> Result<usize, Failed>
         ensures within { ReadsAtMost result to.new }
         ensures octets { ReadConsumes (left self.old) (left self.new) result to.new }
-        ensures cause { HasCause (count self.old) (count self.new) result };
+        ensures cause { HasCause (count self.old) (count self.new) result }
+        ensures quiet { OnOk result (count self.new ≡ count self.old) };
 }
 
 /// Where octets go.
@@ -43,5 +44,6 @@ pub trait Sink {
     /// how many. It fails only where the count rises, and then takes none.
     fn write(&mut self, from: &[u8]) -> Result<usize, Failed>
         ensures octets { WritesSome (written self.old) (written self.new) result from.now }
-        ensures cause { HasCause (count self.old) (count self.new) result };
+        ensures cause { HasCause (count self.old) (count self.new) result }
+        ensures quiet { OnOk result (count self.new ≡ count self.old) };
 }

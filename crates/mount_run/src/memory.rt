@@ -2,7 +2,8 @@ ghost use Rattle.std.specs.Prelude.{◌≡◌, ◌↔◌, [], Some, IsTrue, IsEr
 ghost use Rattle.std.specs.Io.{ReadsAtMost};
 ghost use Rattle.std.specs.Io.KnownBytes.{ReadConsumes};
 ghost use Rattle.mount_run.specs.Causes.{HasCause, WritesSome};
-ghost use Rattle.mount_run.specs.Memory.{call_fails, next_call};
+ghost use Rattle.answer_model.specs.Count.{next_count};
+ghost use Rattle.mount_run.specs.Memory.{call_fails};
 
 use crate::ends::{Failed, Sink, Source};
 use std::marker::Model;
@@ -61,9 +62,10 @@ impl Source for MemSource {
         ensures within { ReadsAtMost result to.new }
         ensures octets { ReadConsumes (Some self.old.left) (Some self.new.left) result to.new }
         ensures cause { HasCause self.old.faults self.new.faults result }
-        ensures calls { self.new.calls ≡ next_call self.old.calls }
+        ensures calls { self.new.calls ≡ next_count self.old.calls }
         ensures fails { self.new.fails ≡ self.old.fails }
         ensures failing { IsErr result ↔ IsTrue (call_fails self.old.fails self.old.calls) }
+        ensures counted { OnErr result (self.new.faults ≡ next_count self.old.faults) }
         ensures moved { IfOk result (λ count. count ≡ min (min (length to.old) (length self.old.left)) 4096) }
         ensures quiet { OnOk result (self.new.faults ≡ self.old.faults) }
     {
@@ -132,9 +134,10 @@ impl Sink for MemSink {
     fn write(&mut self, from: &[u8]) -> Result<usize, Failed>
         ensures octets { WritesSome (Some self.old.written) (Some self.new.written) result from.now }
         ensures cause { HasCause self.old.faults self.new.faults result }
-        ensures calls { self.new.calls ≡ next_call self.old.calls }
+        ensures calls { self.new.calls ≡ next_count self.old.calls }
         ensures fails { self.new.fails ≡ self.old.fails }
         ensures failing { IsTrue (call_fails self.old.fails self.old.calls) → IsErr result }
+        ensures counted { OnErr result (self.new.faults ≡ next_count self.old.faults) }
         ensures moved { IfOk result (λ count. count ≡ min (length from.now) 4096) }
         ensures quiet { OnOk result (self.new.faults ≡ self.old.faults) }
     {

@@ -1,9 +1,9 @@
-ghost use Rattle.std.specs.Prelude.{◌≡◌, ◌≤◌, ◌↔◌, ◌⊎◌, ℕ, List, Some, None, map, string_bytes};
+ghost use Rattle.std.specs.Prelude.{◌≡◌, ◌≤◌, ◌<◌, ◌↔◌, ◌⊎◌, ℕ, List, Some, None, map, string_bytes};
 ghost use Rattle.std.specs.Io.KnownBytes.{Keeps};
 ghost use Rattle.job_model.specs.declared.job.Job.{Job};
 ghost use Rattle.job_model.specs.JobText.{IsJobText};
 ghost use Rattle.job_text.specs.Outcome.{IsNoJob};
-ghost use Rattle.mount_run.specs.Causes.{Rose};
+ghost use Rattle.answer_model.specs.Count.{Rose};
 ghost use Rattle.mount_run.specs.declared.words.Command.{Command};
 ghost use Rattle.mount_run.specs.Words.{command_of as command_in};
 ghost use Rattle.mount_run.specs.Answers.{IsDone, IsCut, TookNoJob};
@@ -49,6 +49,9 @@ pub fn run_alone<S: Source, K: Sink>(
     // A write failed. A front of the output is written.
     ensures write_fault { result ≡ WRITE_FAULT → Rose (K.count output.old) (K.count output.new) }
     ensures cut { result ≡ WRITE_FAULT → IsCut (map string_bytes words.now) (S.left input.old) (S.left input.new) (K.written output.old) (K.written output.new) }
+
+    // Every other answer comes only where no read and no write failed.
+    ensures calm { result < READ_FAULT → (S.count input.new ≡ S.count input.old) × (K.count output.new ≡ K.count output.old) }
 
     // Where no read and no write failed, a job is done and anything else is refused, unless memory ran out.
     ensures job_is_done { (command : Command) (octets : List ℕ) (job : Job) → S.left input.old ≡ Some octets → IsJobText job octets

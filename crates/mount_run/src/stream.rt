@@ -1,6 +1,6 @@
 ghost use Rattle.std.specs.Prelude.{◌≡◌, ◌≤◌, ◌+◌, ℕ, length, take, IfOk, OnOk, OnErr, Err};
 ghost use Rattle.std.specs.Io.KnownBytes.{Consumes, IsAtEnd, Appends};
-ghost use Rattle.mount_run.specs.Causes.{Rose};
+ghost use Rattle.answer_model.specs.Count.{Rose};
 
 use crate::ends::{Failed, Sink, Source};
 use std::alloc::{AllocError, Global};
@@ -46,6 +46,8 @@ pub fn take_all<S: Source>(alloc: Global, input: &mut S) -> Result<Vec<u8>, Take
     ensures whole { IfOk result (λ taken. length taken.items ≤ MOST_OCTETS → IsAtEnd (S.left input.new)) }
     ensures most { IfOk result (λ taken. length taken.items ≤ MOST_OCTETS + 1) }
     ensures later { S.count input.old ≤ S.count input.new }
+    ensures calm { IfOk result (λ _. S.count input.new ≡ S.count input.old) }
+    ensures starved { result ≡ Err TakeError.Memory → S.count input.new ≡ S.count input.old }
     ensures failed { result ≡ Err TakeError.Failed → Rose (S.count input.old) (S.count input.new) }
 {
     let mut taken = Vec::new(alloc);
@@ -66,6 +68,7 @@ pub fn give_all<K: Sink>(output: &mut K, octets: &[u8]) -> Result<(), Failed>
     ensures ok { OnOk result (Appends (K.written output.old) (K.written output.new) octets.now) }
     ensures part { OnErr result ((n : ℕ) × Appends (K.written output.old) (K.written output.new) (take n octets.now)) }
     ensures later { K.count output.old ≤ K.count output.new }
+    ensures calm { OnOk result (K.count output.new ≡ K.count output.old) }
     ensures failed { OnErr result (Rose (K.count output.old) (K.count output.new)) }
 {
     let mut at = 0;

@@ -1,6 +1,6 @@
 -- What a reader finds at the front of some octets, and which way its tests went.
 use Rattle.std.proofs.Common.{◌≡◌, ◌<◌, ◌⊎◌, inl, inr, ℕ, zero, suc, get_or, Bool, true, false, cond, List, [], ◌∷◌, ◌++◌, length, drop, Option, Some, None, refl}
-use Rattle.lower_model.specs.Octets.{AreOctets}
+use Rattle.octet_model.specs.Octets.{AreOctets}
 
 -- this text stands at the front, and has so many octets
 pub record Found (text octets : List ℕ) (used : ℕ) : Type 0 where

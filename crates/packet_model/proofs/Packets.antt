@@ -3,7 +3,7 @@ use Rattle.std.proofs.Common.{◌≡◌, ℕ, suc, ◌+◌, ◌-◌, ◌<◌, �
 use Rattle.std.specs.Prelude.{slice_index}
 use Rattle.std.proofs.lemmas.Bool.{eqb-true, eq-eqb, leb-true, le-leb, and_parts}
 use Rattle.std.proofs.lemmas.List.{take_at, drop_at, get_or_at, append_cancel_left, take-append-drop, drop-drop, length-append, length-take, length-drop}
-use Rattle.lower_model.specs.Octets.{AreOctets}
+use Rattle.octet_model.specs.Octets.{AreOctets}
 use Rattle.packet_model.specs.declared.length.LengthFault.{LengthFault}
 use Rattle.packet_model.specs.declared.packet.Tag3.{Tag3}
 use Rattle.packet_model.specs.declared.packet.Tag11.{Tag11}

@@ -1,7 +1,7 @@
 -- A set of pairs that is read is the one that was written, and what was written is read again.
 use Rattle.std.proofs.Common.{◌≡◌, inl, inr, ℕ, zero, suc, ◌+◌, ◌≤◌, ◌<◌, Bool, true, false, cond, List, [], ◌∷◌, ◌++◌, length, drop, Option, Some, None, Result, Ok, Err, refl, sym, ap, subst, ◌∙◌, append_assoc, arith}
 use Rattle.std.proofs.lemmas.List.{drop_at, drop-drop, length-append, length-drop}
-use Rattle.lower_model.specs.Octets.{AreOctets}
+use Rattle.octet_model.specs.Octets.{AreOctets}
 use Rattle.packet_model.specs.declared.cause.BadCause.{BadCause}
 use Rattle.packet_model.specs.declared.cause.BadCause.TheVariants.{Tag1}
 use Rattle.packet_model.specs.declared.packet.Tag3.{Tag3}

@@ -1,7 +1,7 @@
 -- The pairs of a set one behind another, as a loop reads them.
 use Rattle.std.proofs.Common.{◌≡◌, ◌∙◌, ℕ, zero, suc, ◌+◌, ◌≤◌, true, false, cond, List, [], ◌∷◌, length, drop, Result, Ok, Err, refl, sym, ap, arith}
 use Rattle.std.proofs.lemmas.List.{length-drop}
-use Rattle.lower_model.specs.Octets.{AreOctets}
+use Rattle.octet_model.specs.Octets.{AreOctets}
 use Rattle.packet_model.specs.declared.cause.BadCause.{BadCause}
 use Rattle.packet_model.specs.declared.packet.Pair.{Pair}
 use Rattle.packet_model.specs.PacketSet.{◌>>=◌, begins_pair, pair_at, pairs_at, pairs_from}

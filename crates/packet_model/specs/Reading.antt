@@ -1,5 +1,5 @@
 -- What packet stands at the front of some octets, and how many octets it has.
-use Rattle.std.specs.Prelude.{ℕ, ◌≡◌, ◌+◌, ◌-◌, Bool, List, [], ◌∷◌, length, take, drop, slice_index, slice_range, Option, Some, None, Result, Ok, Err, nat_le, ◌==◌, ◌&&◌, if◌then◌else◌}
+use Rattle.std.specs.Prelude.{ℕ, ◌≡◌, ◌+◌, ◌-◌, Bool, List, [], ◌∷◌, length, take, drop, slice_index, slice_range, Option, Some, None, Result, Ok, Err, nat_le, ◌==◌, ◌&&◌, if◌then◌else◌, IsTrue, is_some}
 use Rattle.packet_model.specs.declared.length.LengthFault.{LengthFault}
 use Rattle.packet_model.specs.declared.packet.Tag3.{Tag3}
 use Rattle.packet_model.specs.declared.packet.Tag11.{Tag11}
@@ -48,4 +48,4 @@ tag11_at octets = fields_if is_tag11_content tag11_fields (content_at tag11_octe
 abbrev pub GivesOrMemory : {A : Type 0} → Result A PacketError → Option A → Type 0
 GivesOrMemory (Ok x) read = read ≡ Some x
 GivesOrMemory (Err Bad) read = read ≡ None
-GivesOrMemory (Err Memory) read = Unit {0}
+GivesOrMemory (Err Memory) read = IsTrue (is_some read)

@@ -1,6 +1,6 @@
 -- The key of a set, by its first pair and what is kept of the others.
 use Rattle.std.proofs.Common.{◌≡◌, ℕ, ◌+◌, true, List, ◌∷◌, drop, Option, None, Result, Ok, Err, refl, sym, ap, ◌∙◌}
-use Rattle.lower_model.specs.Octets.{AreOctets}
+use Rattle.octet_model.specs.Octets.{AreOctets}
 use Rattle.packet_model.specs.declared.cause.BadCause.{BadCause}
 use Rattle.packet_model.specs.declared.packet.Pair.{Pair}
 use Rattle.packet_model.specs.PacketSet.{◌>>=◌, begins_pair, pair_at, pairs_from, set_place, key_among, key_at, key_if_found, first_or_none}

@@ -1,7 +1,7 @@
 -- Reading the pairs of a set one behind another, as a loop does.
 use Rattle.std.proofs.Common.{◌≡◌, ℕ, ◌+◌, Bool, true, false, cond, List, [], ◌∷◌, drop, Option, Some, None, Result, Ok, Err, refl, sym, ap, ◌∙◌}
 use Rattle.std.specs.List.{find}
-use Rattle.lower_model.specs.Octets.{AreOctets}
+use Rattle.octet_model.specs.Octets.{AreOctets}
 use Rattle.packet_model.specs.declared.cause.BadCause.{BadCause}
 use Rattle.packet_model.specs.declared.packet.Pair.{Pair}
 use Rattle.packet_model.specs.PacketSet.{◌>>=◌, begins_pair, pair_at, pairs_from, is_among}

@@ -1,5 +1,5 @@
 ghost use Rattle.std.specs.Prelude.{◌≡◌, ℕ, List, Ok};
-ghost use Rattle.lower_model.specs.Octets.{AreOctets};
+ghost use Rattle.octet_model.specs.Octets.{AreOctets};
 ghost use Rattle.packet_model.specs.declared.packet.Pair.{Pair};
 ghost use Rattle.packet_model.specs.PacketSet.{pairs_from, IsSet};
 

@@ -43,7 +43,7 @@ impl Fek {
 
     /// Ends the key, with zeros over its octets.
     pub fn spend(self) {
-        let Fek { secret } = self;
+        let Fek { mut secret } = self;
         secret.wipe();
     }
 }
@@ -69,7 +69,7 @@ impl FekLoan {
 
     /// Ends the loan, with zeros over its octets.
     pub fn spend(self) {
-        let FekLoan { secret } = self;
+        let FekLoan { mut secret } = self;
         secret.wipe();
     }
 }

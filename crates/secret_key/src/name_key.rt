@@ -46,7 +46,7 @@ impl Fnek {
 
     /// Ends the key, with zeros over its octets and its signature.
     pub fn spend(self) {
-        let Fnek { key, signature } = self;
+        let Fnek { key, mut signature } = self;
         key.spend();
         signature.wipe();
     }

@@ -34,8 +34,10 @@ impl<const N: usize> Secret<N> {
         &self.octets
     }
 
-    // Lets the octets go, with zeros over them.
-    pub fn wipe(mut self) {
+    // Zeros over the octets.
+    pub fn wipe(&mut self)
+        ensures { self.new ≡ replicate N 0 }
+    {
         self.octets.fill(0);
     }
 }

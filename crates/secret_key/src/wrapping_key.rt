@@ -33,7 +33,7 @@ impl Kek {
 
     /// Ends the key, with zeros over its octets.
     pub fn spend(self) {
-        let Kek { secret } = self;
+        let Kek { mut secret } = self;
         secret.wipe();
     }
 }

@@ -1,5 +1,6 @@
 -- Which lists of turns a plain tree could have had.
-use Rattle.std.specs.Prelude.{ℕ, ◌≡◌, ◌<◌, ◌≤◌, List, [], ◌∷◌}
+use Rattle.std.specs.Prelude.{ℕ, ◌≡◌, ◌≤◌, List, [], ◌∷◌}
+use Rattle.answer_model.specs.Count.{Rose}
 use Rattle.tree_model.specs.declared.call.TreeCall.{TreeCall}
 use Rattle.tree_model.specs.declared.call.TreeReply.{TreeReply}
 use Rattle.tree_model.specs.declared.call.TreeReply.TheVariants as replies
@@ -17,7 +18,7 @@ IsNoRefusal replies.Memory = ⊥
 -- The call may answer this, and the tree goes on from old to new: by the step, or unchanged for want of memory or for a fault that the count shows.
 abbrev pub Turns : TreeReply → TreeCall → ℕ → ℕ → PlainTree → PlainTree → Type 0
 Turns replies.Memory call before after old new = new ≡ old
-Turns replies.LowerFault call before after old new = (before < after) × IsNoRefusal (step old call).reply × (new ≡ old)
+Turns replies.LowerFault call before after old new = Rose before after × IsNoRefusal (step old call).reply × (new ≡ old)
 Turns reply call before after old new = step old call ≡ record { reply = reply; tree = new }
 
 pub record IsTurn (old : PlainTree) (e : TreeEntry) (new : PlainTree) : Type 0 where

@@ -58,7 +58,7 @@ first_octets place ours octets = elim (cases_lt (length octets) 4096) [
 ]
 
 -- the metadata of a file without the attribute, by the head of its body
-pub at_head : (ours : List (List ℕ)) (head body : List ℕ) (len : ℕ) → IsHead head len body → (len ≡ 0 → ⊥) → metadata ours body None ≡ with_body Header body (header_at Header ours head)
+pub at_head : (ours : List (List ℕ)) (head body : List ℕ) (len : ℕ) → IsHead head None len body → (len ≡ 0 → ⊥) → metadata ours body None ≡ with_body Header body (header_at Header ours head)
 at_head ours head [] len is some = absurd (some (sym is.long))
 at_head ours head (first ∷ rest) len is some =
-    ap (with_body Header (first ∷ rest)) (sym (first_octets Header ours (first ∷ rest)) ∙ ap (λ (xs : List ℕ). header_at Header ours xs) (sym is.same) ∙ first_octets Header ours head)
+    ap (with_body Header (first ∷ rest)) (sym (first_octets Header ours (first ∷ rest)) ∙ ap (λ (xs : List ℕ). header_at Header ours xs) (sym (is.same refl)) ∙ first_octets Header ours head)

@@ -6,10 +6,10 @@ use Rattle.file_header.specs.declared.meta.HeaderError.{HeaderError}
 use Rattle.file_header.specs.declared.meta.HeaderError.TheVariants.{Bad, Memory}
 use Rattle.xattr_meta.specs.declared.meta.FileMeta.{FileMeta}
 
--- the body has so many octets, and the head has its first 4,096, or all
-pub record IsHead (head : List ℕ) (len : ℕ) (body : List ℕ) : Type 0 where
+-- the body has so many octets, and, where there is no attribute, the head has its first 4,096, or all
+pub record IsHead (head : List ℕ) (attribute : Option (List ℕ)) (len : ℕ) (body : List ℕ) : Type 0 where
   pub long : length body ≡ len
-  pub same : take 4096 head ≡ take 4096 body
+  pub same : attribute ≡ None → take 4096 head ≡ take 4096 body
 
 -- these are the values of the metadata, with the file key that its key wraps
 pub record IsFileMeta (kek : List ℕ) (meta : FileMeta) (header : FileHeader) : Type 0 where

@@ -21,7 +21,7 @@ pub fn read_meta<R: Ring>(
     len: u64,
     ring: &R,
 ) -> Result<Option<FileMeta>, HeaderError>
-    ensures read { (body : List ℕ) → IsHead head.now len body
+    ensures read { (body : List ℕ) → IsHead head.now (option_copied attribute.entry) len body
         → GivesFile (R.ring_kek ring.now) result (metadata (R.ring_signature ring.now ∷ []) body (option_copied attribute.entry)) }
     ensures size { IfOk result (λ found. IfSome found (λ meta. meta.size ≤ MAX_SIZE)) }
     ensures long { IfOk result (λ found. IfSome found (λ meta. meta.data_start + 4096 * extent_count meta.size ≤ len)) }

@@ -18,7 +18,7 @@ returns-in-Ok-Some g c =
     let ring : Ring = record { signature = g.R.Ring.ring_signature c.args.ring.now; kek = g.R.Ring.ring_kek c.args.ring.now } in
     let read : Metadata = metadata (ring.signature ∷ []) body attribute in
     let good : GivesFile ring.kek (Ok (Some c.in-Ok-Some.meta)) read =
-    subst (λ (found : Option FileMeta). GivesFile ring.kek (Ok found) read) c.in-Ok-Some.field-0-is (c.in-Ok-Some.ensures.read body (record { long = refl; same = refl })) in
+    subst (λ (found : Option FileMeta). GivesFile ring.kek (Ok found) read) c.in-Ok-Some.field-0-is (c.in-Ok-Some.ensures.read body (record { long = refl; same = λ _. refl })) in
     let content : IfOk c.good_content.result (λ x. IsContent ring body attribute x) =
     subst (λ (m : Metadata). IfOk c.good_content.result (λ x. IsContentBy ring.kek m body x)) (sym good.1) (c.good_content.ensures ring.kek good.0 good.2) in
     record {

@@ -1,7 +1,7 @@
 use Rattle.std.proofs.Common.{◌≡◌, ℕ, List, Result, Ok, Err, arith, ap, subst, ◌∙◌}
 use Rattle.std.specs.Prelude.{IfOk}
 use Rattle.lower_model.specs.declared.node.LowerNode.{LowerNode}
-use Rattle.lower_model.specs.Octets.{AreOctets}
+use Rattle.octet_model.specs.Octets.{AreOctets}
 use Rattle.lower_model.specs.LowerTree.{IsLowerTree}
 use Rattle.image_model.specs.declared.fault.ImageError.{ImageError}
 use Rattle.image_model.specs.Spelling.{image}

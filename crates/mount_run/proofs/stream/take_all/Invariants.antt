@@ -1,11 +1,11 @@
-use Rattle.std.proofs.Common.{◌≤◌, ◌-◌, length}
+use Rattle.std.proofs.Common.{◌≡◌, ◌≤◌, ◌-◌, length}
 use Rattle.std.specs.Io.KnownBytes.{Consumes}
 use Rattle.mount_run.proofs.stream.take_all.Given as goal
 
 abbrev pub invariant-loop-buffer : goal.invariant-loop-buffer
 invariant-loop-buffer g l =
     let s = g.S.Source in record {
-      later : s.count l.fn.input ≤ s.count l.input;
+      calm : s.count l.input ≡ s.count l.fn.input;
       taken : Consumes (s.left l.fn.input) (s.left l.input) l.taken.items;
       most : length l.taken.items ≤ 268435457;
     }

@@ -28,3 +28,6 @@ returns-clause-tree_history c = tree_log _ _ _ _ _ (whole c)
 
 pub returns-clause-script_calls : goal.returns-clause-script_calls
 returns-clause-script_calls c = script_calls _ _ _ _ _ (whole c)
+
+pub returns-clause-faultless : goal.returns-clause-faultless
+returns-clause-faultless c = (whole c).are_own

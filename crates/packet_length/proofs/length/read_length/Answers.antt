@@ -1,6 +1,6 @@
 use Rattle.std.proofs.Common.{◌≡◌, ◌<◌, ◌≤◌, ℕ, ◌++◌, List, length, drop, Result, Ok, Err, sym, ap, ◌∙◌, arith}
 use Rattle.std.specs.Prelude.{IfOk}
-use Rattle.lower_model.specs.Octets.{AreOctets}
+use Rattle.octet_model.specs.Octets.{AreOctets}
 use Rattle.packet_model.specs.declared.length.LengthFault.{LengthFault}
 use Rattle.packet_model.specs.Length.{length_at, length_octets}
 use Rattle.packet_model.proofs.Found.{AreOctets-from_each}

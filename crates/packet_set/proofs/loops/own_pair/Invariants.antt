@@ -1,5 +1,5 @@
 use Rattle.std.proofs.Common.{◌≡◌, ◌+◌, ◌∷◌, [], length}
-use Rattle.lower_model.specs.Octets.{AreOctets}
+use Rattle.octet_model.specs.Octets.{AreOctets}
 use Rattle.packet_model.specs.PacketSet.{pairs_from}
 use Rattle.packet_set.specs.Gives.{kept_behind}
 use Rattle.packet_set.proofs.loops.own_pair.Given as goal

@@ -1,6 +1,6 @@
 use Rattle.std.proofs.Common.{◌≡◌, ℕ, ◌++◌, List, length, drop, Result, Ok, Err, ap, subst, ◌∙◌, arith}
 use Rattle.std.specs.Prelude.{IfOk}
-use Rattle.lower_model.specs.Octets.{AreOctets}
+use Rattle.octet_model.specs.Octets.{AreOctets}
 use Rattle.packet_model.specs.declared.packet.Tag3.{Tag3}
 use Rattle.packet_model.specs.declared.packet.PacketError.{PacketError}
 use Rattle.packet_model.specs.Spelling.{tag3, IsTag3}

@@ -1,0 +1,2 @@
+//! Lists of octets.
+#![tactic(auto)]
