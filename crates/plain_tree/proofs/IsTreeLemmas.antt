@@ -1,5 +1,5 @@
 -- A tree with one more entry, which leads to a new node, is a tree.
-use Rattle.std.proofs.Common.{◌≡◌, ◌≢◌, ℕ, suc, zero, ◌<◌, ◌≤◌, ◌+◌, ◌-◌, cond, ◌⊎◌, inl, inr, List, [], ◌∷◌, ◌++◌, length, Option, Some, None, refl, sym, ap, subst, ◌∙◌, arith, length-append}
+use Rattle.std.proofs.Common.{◌≡◌, ◌≢◌, ℕ, suc, zero, ◌<◌, ◌≤◌, ◌+◌, ◌-◌, cond, ◌⊎◌, inl, inr, List, [], ◌∷◌, ◌++◌, length, Option, Some, None, Result, Ok, Err, refl, sym, ap, subst, ◌∙◌, arith, length-append}
 use Rattle.std.specs.Prelude.{◌==◌, IsTrue, replicate, slice_get, slice_set}
 use Rattle.std.proofs.lemmas.List.{length-set, length-replicate, get_or-replicate, replicate-append-replicate}
 use Rattle.std.proofs.lemmas.Option.{slice_get_within, slice_get_past, get_or_from_slice_get}
@@ -12,9 +12,11 @@ use Rattle.tree_model.specs.declared.place.Directory.{Directory}
 use Rattle.tree_model.specs.declared.place.Place.{Place}
 use Rattle.tree_model.specs.declared.place.Place.TheVariants.{Dir, File, Nothing}
 use Rattle.tree_model.specs.Names.{is_named, node_of, put_entry, RisesBehind}
+use Rattle.tree_model.specs.declared.call.TreeRefusal.{TreeRefusal}
+use Rattle.tree_model.specs.Walk.{◌>>=◌, found, entry_of, walk}
 use Rattle.tree_model.specs.PlainTree.{most_nodes, empty_directory, place_with, placed, added}
 use Rattle.tree_model.specs.IsTree.{IsTree, IsDirectory, IsNode, node_in}
-use Rattle.tree_model.proofs.NameLemmas.{is_named_is, node_of-put_entry, comes_behind_nothing, RisesBehind-put_entry}
+use Rattle.tree_model.proofs.NameLemmas.{is_named_is, is_named_same, node_of-put_entry, comes_behind_nothing, RisesBehind-put_entry}
 use Rattle.plain_tree.specs.Entered.{begun, TakesName}
 use Rattle.plain_tree.proofs.Places.{slice_get-set, slice_get-push}
 
@@ -45,6 +47,44 @@ begun_rises kinds.Dir d is =
     let same : empty_directory ≡ d = cc in
     subst (λ (e : Directory). RisesBehind [] e.shown) same tt
 begun_rises kinds.File d is = absurd cc
+
+node_from_entry : (place : Option Place) (x : List ℕ) (n : ℕ) → node_in place x ≡ Some n → IsNode place
+node_from_entry (Some (Dir d)) x n is = tt
+node_from_entry (Some File) x n is = absurd cc
+node_from_entry (Some Nothing) x n is = absurd cc
+node_from_entry None x n is = absurd cc
+
+-- ---- a name on a walk leads to the node of its entry
+
+found_node : (node : Option ℕ) (n : ℕ) → found node ≡ Ok n → node ≡ Some n
+found_node (Some m) n is = cc
+found_node None n is = absurd cc
+
+entry_node : (place : Option Place) (x : List ℕ) (n : ℕ) → entry_of place x ≡ Ok n → node_in place x ≡ Some n
+entry_node (Some (Dir d)) x n is = found_node (node_of x d.shown) n is
+entry_node (Some File) x n is = absurd cc
+entry_node (Some Nothing) x n is = absurd cc
+entry_node None x n is = absurd cc
+
+node_entry : (place : Option Place) (x : List ℕ) (n : ℕ) → node_in place x ≡ Some n → entry_of place x ≡ Ok n
+node_entry (Some (Dir d)) x n is = ap found is
+node_entry (Some File) x n is = absurd cc
+node_entry (Some Nothing) x n is = absurd cc
+node_entry None x n is = absurd cc
+
+-- where a walk leads somewhere, its first entry does
+first_step : (entry : Result ℕ TreeRefusal) (rest : ℕ → Result ℕ TreeRefusal) (n : ℕ) → (entry >>= rest) ≡ Ok n → (m : ℕ) × (entry ≡ Ok m) × (rest m ≡ Ok n)
+first_step (Ok m) rest n is = (m, refl, is)
+first_step (Err refusal) rest n is = absurd cc
+
+-- a walk that takes one more step
+walk_on : (places : List Place) (at k n : ℕ) (path : List (List ℕ)) (x : List ℕ) → walk places at path ≡ Ok k → node_in (slice_get places k) x ≡ Some n → walk places at (path ++ x ∷ []) ≡ Ok n
+walk_on places at k n [] x here is =
+    let same : at ≡ k = cc in
+    ap (λ (r : Result ℕ TreeRefusal). r >>= λ m. walk places m []) (ap (λ (j : ℕ). entry_of (slice_get places j) x) same ∙ node_entry (slice_get places k) x n is)
+walk_on places at k n (y ∷ path) x here is =
+    let first = first_step (entry_of (slice_get places at) y) (λ m. walk places m path) k here in
+    ap (λ (r : Result ℕ TreeRefusal). r >>= λ m. walk places m (path ++ x ∷ [])) first.1 ∙ walk_on places first.0 k n path x first.2 is
 
 -- ---- the change
 
@@ -161,6 +201,51 @@ module _ {old new : List Place} {at : ℕ} {d : Directory} {name : List ℕ} {no
         ]
       ]
 
+  -- an old entry is shown as before
+  entry_stays : (k : ℕ) (x : List ℕ) (n : ℕ) → node_in (slice_get old k) x ≡ Some n → node_in (slice_get new k) x ≡ Some n
+  entry_stays k x n is =
+      elim (cases_place k) [
+        | inl p ↦ absurd (s.fresh (subst (λ (j : ℕ). IsNode (slice_get old j)) p.0 (node_from_entry (slice_get old k) x n is)))
+        | inr q ↦ elim q [
+          | inl p ↦ (let found : node_in (slice_get new k) x ≡ cond (is_named name x) (Some node) (node_of x d.shown) = ap (λ (o : Option Place). node_in o x) p.1 ∙ node_of-put_entry x d.shown name node in
+              let shown : node_of x d.shown ≡ Some n = ap (λ (o : Option Place). node_in o x) (sym (ap (slice_get old) p.0 ∙ s.directory)) ∙ is in
+              elim (cases_Bool (is_named name x)) [
+                | inl h ↦ (let same : x ≡ name = sym (is_named_is name x h) in
+                    let none : node_of x d.shown ≡ None = ap (λ (y : List ℕ). node_of y d.shown) same ∙ s.absent in absurd cc)
+                | inr h ↦ (let here : node_in (slice_get new k) x ≡ node_of x d.shown = rw h at found in here ∙ shown)
+              ])
+          | inr p ↦ ap (λ (o : Option Place). node_in o x) p ∙ is
+        ]
+      ]
+
+  walk_stays : (at n : ℕ) (path : List (List ℕ)) → walk old at path ≡ Ok n → walk new at path ≡ Ok n
+  walk_stays at n [] is = is
+  walk_stays at n (x ∷ path) is =
+      let first = first_step (entry_of (slice_get old at) x) (λ m. walk old m path) n is in
+      let entry = node_entry (slice_get new at) x first.0 (entry_stays at x first.0 (entry_node (slice_get old at) x first.0 first.1)) in
+      ap (λ (r : Result ℕ TreeRefusal). r >>= λ m. walk new m path) entry ∙ walk_stays first.0 n path first.2
+
+  at_directory : slice_get new at ≡ Some (Dir grown)
+  at_directory =
+      elim (eqb_tells at node) [
+        | inl e ↦ absurd (s.fresh (subst (λ (j : ℕ). IsNode (slice_get old j)) e.1 (subst IsNode (sym s.directory) tt)))
+        | inr e ↦ rw (eq-eqb at at refl) at (rw e.0 at (s.each at))
+      ]
+
+  new_shown : node_in (slice_get new at) name ≡ Some node
+  new_shown = ap (λ (o : Option Place). node_in o name) at_directory ∙ node_of-put_entry name d.shown name node ∙ rw (is_named_same name) refl
+
+  reached_stays : (n : ℕ) → IsNode (slice_get new n) → (path : List (List ℕ)) × (walk new 0 path ≡ Ok n)
+  reached_stays n h =
+      let directory = tree.reached at (subst IsNode (sym s.directory) tt) in
+      elim (cases_place n) [
+        | inl p ↦ (directory.0 ++ name ∷ [], walk_on new 0 at n directory.0 name (walk_stays 0 at directory.0 directory.1) (new_shown ∙ ap (λ (m : ℕ). Some m) (sym p.0)))
+        | inr q ↦ elim q [
+          | inl p ↦ (let here = tree.reached n (subst (λ (k : ℕ). IsNode (slice_get old k)) (sym p.0) (subst IsNode (sym s.directory) tt)) in (here.0, walk_stays 0 n here.0 here.1))
+          | inr p ↦ (let here = tree.reached n (subst IsNode p h) in (here.0, walk_stays 0 n here.0 here.1))
+        ]
+      ]
+
   pub is_tree_shows : IsTree new
   is_tree_shows = record {
     few = s.few;
@@ -169,6 +254,7 @@ module _ {old new : List Place} {at : ℕ} {d : Directory} {name : List ℕ} {no
     there = there_stays;
     no_root = no_root_stays;
     once = once_stays;
+    reached = reached_stays;
   }
 
 -- ---- the changes of a tree
@@ -234,9 +320,17 @@ not_shown n k (Some place) name m is shown =
     let nothing : node_in (Some place) name ≡ None = ap (λ (p : Place). node_in (Some p) name) (nothing_at n k place (sym is)) in
     absurd cc
 
+no_node : (n k : ℕ) (place : Option Place) → place ≡ slice_get (replicate n Nothing) k → IsNode place → ⊥
+no_node n k None is h = absurd h
+no_node n k (Some place) is h = subst (λ (p : Place). IsNode (Some p)) (nothing_at n k place (sym is)) h
+
 root_shows_none : (n k : ℕ) (name : List ℕ) (m : ℕ) → node_in (slice_get (Dir empty_directory ∷ replicate n Nothing) k) name ≡ Some m → ⊥
 root_shows_none n zero name m shown = absurd cc
 root_shows_none n (suc k) name m shown = not_shown n k (slice_get (replicate n Nothing) k) name m refl shown
+
+root_reached : (n k : ℕ) → IsNode (slice_get (Dir empty_directory ∷ replicate n Nothing) k) → (path : List (List ℕ)) × (walk (Dir empty_directory ∷ replicate n Nothing) 0 path ≡ Ok k)
+root_reached n zero h = ([], refl)
+root_reached n (suc k) h = absurd (no_node n k (slice_get (replicate n Nothing) k) refl h)
 
 root_ordered : (n k : ℕ) (d : Directory) → slice_get (Dir empty_directory ∷ replicate n Nothing) k ≡ Some (Dir d) → RisesBehind [] d.shown
 root_ordered n zero d is =
@@ -254,6 +348,7 @@ is_tree_root n few = record {
   there = λ k name m shown. absurd (root_shows_none n k name m shown);
   no_root = λ k name m shown. absurd (root_shows_none n k name m shown);
   once = λ j k a b m first second. absurd (root_shows_none n j a m first);
+  reached = root_reached n;
 }
 
 pub nothing_more : (places pushed : List Place) (next : ℕ) → 1 ≤ next → places ≡ Dir empty_directory ∷ replicate (next - 1) Nothing → pushed ≡ places ++ Nothing ∷ [] → pushed ≡ Dir empty_directory ∷ replicate (next + 1 - 1) Nothing

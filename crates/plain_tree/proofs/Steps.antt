@@ -1,5 +1,5 @@
 -- The step of a call whose tests were passed.
-use Rattle.std.proofs.Common.{◌≡◌, ℕ, ◌-◌, List, [], ◌∷◌, ◌++◌, length, take, Option, Some, Result, Ok, Err, refl, sym, ap, ◌∙◌, arith, length-append}
+use Rattle.std.proofs.Common.{◌≡◌, ℕ, ◌-◌, List, [], ◌∷◌, ◌++◌, length, take, Option, Some, Result, Ok, Err, refl, sym, ap, subst, ◌∙◌, arith, length-append}
 use Rattle.std.specs.Prelude.{slice_get, unwrap_or}
 use Rattle.std.proofs.Math.Seq.{take-append_seam}
 use Rattle.std.proofs.lemmas.Bool.{eq-eqb}
@@ -9,7 +9,7 @@ use Rattle.tree_model.specs.declared.call.TreeReply.TheVariants as replies
 use Rattle.tree_model.specs.declared.place.Place.{Place}
 use Rattle.tree_model.specs.declared.place.Place.TheVariants.{Dir}
 use Rattle.tree_model.specs.Walk.{front, last}
-use Rattle.tree_model.specs.PlainTree.{PlainTree, empty_directory, added, room_for, Outcome, Stepped, step, made}
+use Rattle.tree_model.specs.PlainTree.{PlainTree, empty_directory, added, room_for, Outcome, Stepped, IsNoRefusal, step, made}
 use Rattle.plain_tree.proofs.Places.{slice_get-push}
 
 last_pushed : (names : List (List ℕ)) (name : List ℕ) → last (names ++ name ∷ []) ≡ Some name
@@ -35,6 +35,12 @@ mkdir_done t p parents name at places parts found is =
     ap (λ (r : Result ℕ TreeRefusal). stepped t (made t replies.Done (Dir empty_directory) r (last p))) tested
     ∙ ap (λ (o : Option (List ℕ)). stepped t (made t replies.Done (Dir empty_directory) (Ok at) o)) is_last
     ∙ ap (λ (l : List Place). record { reply = replies.Done; tree = record { limit = t.limit; places = l } }) (sym is)
+
+pub mkdir_is_no_refusal : (t : PlainTree) (p : List (List ℕ)) (parents : List (List ℕ)) (name : List ℕ) (at : ℕ) → p ≡ parents ++ name ∷ [] → Ok at ≡ room_for t.limit t.places parents (Some name)
+    → IsNoRefusal (step t (calls.Mkdir p)).reply
+mkdir_is_no_refusal t p parents name at parts found =
+    let done = mkdir_done t p parents name at (added t.places at name (Dir empty_directory)) parts found refl in
+    subst (λ (s : Stepped). IsNoRefusal s.reply) (sym done) tt
 
 pub mkdir_refused : (t : PlainTree) (p : List (List ℕ)) (parents : List (List ℕ)) (name : List ℕ) (refusal : TreeRefusal) → p ≡ parents ++ name ∷ [] → Err refusal ≡ room_for t.limit t.places parents (Some name)
     → step t (calls.Mkdir p) ≡ record { reply = replies.Refused refusal; tree = t }

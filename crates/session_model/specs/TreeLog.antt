@@ -4,16 +4,8 @@ use Rattle.answer_model.specs.Count.{Rose}
 use Rattle.tree_model.specs.declared.call.TreeCall.{TreeCall}
 use Rattle.tree_model.specs.declared.call.TreeReply.{TreeReply}
 use Rattle.tree_model.specs.declared.call.TreeReply.TheVariants as replies
-use Rattle.tree_model.specs.PlainTree.{PlainTree, step}
+use Rattle.tree_model.specs.PlainTree.{PlainTree, IsNoRefusal, step}
 use Rattle.session_model.specs.declared.entry.TreeEntry.{TreeEntry}
-
--- a reply in whose place a fault of the lower names may stand: any but a refusal
-abbrev pub IsNoRefusal : TreeReply → Type 0
-IsNoRefusal replies.Done = Unit {0}
-IsNoRefusal (replies.Names names) = Unit {0}
-IsNoRefusal (replies.Refused refusal) = ⊥
-IsNoRefusal replies.LowerFault = ⊥
-IsNoRefusal replies.Memory = ⊥
 
 -- The call may answer this, and the tree goes on from old to new: by the step, or unchanged for want of memory or for a fault that the count shows.
 abbrev pub Turns : TreeReply → TreeCall → ℕ → ℕ → PlainTree → PlainTree → Type 0

@@ -4,3 +4,4 @@ pub mod PathValues
 pub mod Searches
 pub mod StepValues
 pub mod Listings
+mod NoTree

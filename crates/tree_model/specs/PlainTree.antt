@@ -116,8 +116,16 @@ pub record Stepped : Type 0 where
 abbrev pub step : PlainTree → TreeCall → Stepped
 step t call = record { reply = (outcome t call).reply; tree = unwrap_or (outcome t call).change t }
 
--- What a call on a tree in memory answers and leaves: the step's reply and tree, or want of memory, which leaves the tree.
+-- a reply in whose place want of memory or a fault of the lower names may stand: any but a refusal
+abbrev pub IsNoRefusal : TreeReply → Type 0
+IsNoRefusal replies.Done = Unit {0}
+IsNoRefusal (replies.Names names) = Unit {0}
+IsNoRefusal (replies.Refused refusal) = ⊥
+IsNoRefusal replies.LowerFault = ⊥
+IsNoRefusal replies.Memory = ⊥
+
+-- What a call on a tree in memory answers and leaves: the step's reply and tree, or, in place of a reply that is no refusal, want of memory, which leaves the tree.
 abbrev pub StepsOrMemory : TreeReply → PlainTree → PlainTree → Stepped → Type 0
-StepsOrMemory replies.Memory old new stepped = new ≡ old
+StepsOrMemory replies.Memory old new stepped = (new ≡ old) × IsNoRefusal stepped.reply
 StepsOrMemory replies.LowerFault old new stepped = ⊥
 StepsOrMemory reply old new stepped = stepped ≡ record { reply = reply; tree = new }

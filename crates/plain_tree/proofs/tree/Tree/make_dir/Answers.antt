@@ -1,7 +1,7 @@
-use Rattle.std.proofs.Common.{sym, ◌∙◌}
+use Rattle.std.proofs.Common.{refl, sym, ◌∙◌}
 use Rattle.lower_model.specs.declared.kind.Kind.TheVariants as kinds
 use Rattle.plain_tree.proofs.IsTreeLemmas.{is_tree_added}
-use Rattle.plain_tree.proofs.Steps.{mkdir_done, mkdir_refused}
+use Rattle.plain_tree.proofs.Steps.{mkdir_done, mkdir_is_no_refusal, mkdir_refused}
 use Rattle.plain_tree.proofs.tree.Tree.make_dir.Goals as goal
 
 pub returns-in-Err : goal.returns-in-Err
@@ -22,3 +22,19 @@ returns c =
     (rw c.in-Ok-from_slice.ensures (sym c.parts.ensures.parts ∙ c.in-Some.ensures.parts))
     (rw (c.deref.ensures.value, ← c.in-Ok-from_slice.ensures) at c.in-Ok.ensures.value)
     (rw c.begun.ensures at c.in-Ok-add.ensures.ok))
+
+pub returns-in_default-from_slice : goal.returns-in_default-from_slice
+returns-in_default-from_slice c = (
+  refl,
+  rw (← c.self.view_is) (mkdir_is_no_refusal (record { limit = c.self.inside.limit; places = c.self.inside.places.items }) c.args.path.now c.in-Some.parents c.in-Some.name.now c.in-Ok.at
+      (sym c.parts.ensures.parts ∙ c.in-Some.ensures.parts)
+      (rw c.deref.ensures.value at c.in-Ok.ensures.value)),
+)
+
+pub returns-in_default-add : goal.returns-in_default-add
+returns-in_default-add c = (
+  rw c.in_default-add.ensures.err c.self.view_is,
+  rw (← c.self.view_is) (mkdir_is_no_refusal (record { limit = c.self.inside.limit; places = c.self.inside.places.items }) c.args.path.now c.in-Some.parents c.in-Some.name.now c.in-Ok.at
+      (sym c.parts.ensures.parts ∙ c.in-Some.ensures.parts)
+      (rw c.deref.ensures.value at c.in-Ok.ensures.value)),
+)
