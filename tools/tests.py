@@ -438,7 +438,7 @@ class UnpackReport(Tools):
 
     def test_reports_that_are_none_are_refused(self):
         whole = report(self.IMAGE)
-        texts = [whole[:length] for length in range(0, len(whole), 5)]
+        texts = [whole[:length] for length in range(0, len(whole), 17)]
         texts += [whole + b"\n", whole.replace(b"tree 2", b"tree 3"), whole.replace(b"ok\n", b"", 1), whole.replace(b"image", b"image 1")]
         for text in texts:
             with self.subTest(text):
@@ -447,24 +447,34 @@ class UnpackReport(Tools):
 
     def test_images_that_are_none_are_refused(self):
         faults = {
-            b"\0\0\0\1b": b"no directory is open",
-            b"\0\2\0\1b": b"no directory is open",
-            b"\0\1\2\1b\0\0\0\0\0": b"neither a directory nor a file",
-            b"\0\1\1\1b\2\0\0\0\0": b"neither a directory nor a file",
+            b"\0\0\0\1b": b"no directory is open at its level",
+            b"\0\2\0\1b": b"no directory is open at its level",
+            b"\0\1\2\1b\0\0\0\0\0": b"it is neither a directory nor a file",
+            b"\0\1\1\1b\2\0\0\0\0": b"it is neither a directory nor a file",
             b"\0\1\1\1b\0\0\0\0\1": b"the image is cut",
-            b"\0\1\0\0": b"would leave the folder",
-            b"\0\1\0\2..": b"would leave the folder",
-            b"\0\1\0\3a/b": b"would leave the folder",
+            b"\0\1\0\0": b"the path would leave the folder",
+            b"\0\1\0\2..": b"the path would leave the folder",
+            b"\0\1\0\3a/b": b"the path would leave the folder",
         }
         for entry, why in faults.items():
             with self.subTest(why):
-                image = b"ECRYIMG1\0\0\0\1" + entry
-                self.refused(self.unpack("folder", given=report(image)), b"entry 1 of the image: ")
-                self.refused(self.unpack("folder", given=report(image)), why)
+                given = report(b"ECRYIMG1\0\0\0\1" + entry)
+                self.refused(self.unpack("folder", given=given), b"entry 1 of the image: " + why)
         twice = b"ECRYIMG1\0\0\0\2" + 2 * self.DIRECTORY
         self.refused(self.unpack("folder", given=report(twice)), b"entry 2 of the image: the path stands there twice")
         self.refused(self.unpack("folder", given=report(self.IMAGE + b"\0")), b"something follows the last entry")
         self.assertFalse(os.path.exists(self.at("folder")))
+
+
+class Documents(unittest.TestCase):
+    def test_links_and_files_that_are_named_are_there(self):
+        for name in subprocess.run(["git", "ls-files", "*.md"], cwd=TOP, capture_output=True, text=True, check=True).stdout.split():
+            text = read(os.path.join(TOP, name)).decode()
+            links = [os.path.join(os.path.dirname(name), link) for link in re.findall(r"\]\(([^():#]+)\)", text)]
+            sources = [f"crates/{source}" for source in re.findall(r"`([a-z0-9_]+/(?:src|specs|proofs)/[A-Za-z0-9_/]+\.(?:rt|antt))`", text)]
+            for path in links + sources:
+                with self.subTest(name):
+                    self.assertTrue(os.path.exists(os.path.join(TOP, path)), f"there is no {path}")
 
 
 class Help(Tools):
