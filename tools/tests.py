@@ -1,10 +1,10 @@
 #!/usr/bin/env python3
-"""The tests of tools/pack and tools/unpack, and of the trip from a lower tree over the program's show to a folder.
+"""The tests of tools/pack and tools/unpack, and of the trips from a lower tree over the program to a folder or a tar file.
 
     tools/tests.py [PROGRAM]        PROGRAM is the built program, by default crates/mount_prog/out/mount_prog
 
-Where the program isn't built, the trip goes on with the show texts that stand beside the jobs of tests/linux. The last line is
-`tools: N passed, M failed`, and the status is 1 where any test failed.
+Where the program isn't built, the trips over it fail. The last line is `tools: N passed, M failed`, and the status is 1 where
+any test failed.
 """
 import errno
 import io
@@ -26,11 +26,15 @@ XATTR = "SCHILY.xattr.user.ecryptfs"
 
 # The texts as docs/TEXTS.md has them, written out by hand.
 HEAD = b"ecryptfs-job 1\npassphrase 74657374\nsalt 0011223344556677\nnamesalt 0011223344556677\nnames plain\nmeta header\nrandom "
-TAIL = b"\nsessions 1\nscript 0\nschedule\nend\n"
 
 
-def job(image):
-    return HEAD + b"0" * 64 + b"\nimage %d\n" % len(image) + image + TAIL
+def job(image, script=b"script 0\n"):
+    return HEAD + b"0" * 64 + b"\nimage %d\n" % len(image) + image + b"\nsessions 1\n" + script + b"schedule\nend\n"
+
+
+def report(image):
+    parts = b"session 0 2\nok\nnames d:a\ntree 2\n0 0 0 0 mkdir /a = ok\n0 1 0 0 list / = names d:a\n"
+    return b"ecryptfs-report 1\n" + parts + b"image %d\n" % len(image) + image + b"\nend\n"
 
 
 def image_in(octets):
@@ -111,6 +115,14 @@ class Tools(unittest.TestCase):
         self.assertEqual((ran.returncode, ran.stderr), (0, b""))
         return ran.stdout
 
+    def set_attribute(self, path, octets):
+        try:
+            os.setxattr(path, "user.ecryptfs", octets)
+        except OSError as error:
+            if error.errno != errno.ENOTSUP:
+                raise
+            self.skipTest("the file system has no attributes")
+
     def refused(self, ran, why):
         """One line on standard error that says why, status 1, and nothing written."""
         self.assertEqual(ran.returncode, 1)
@@ -143,12 +155,7 @@ class Pack(Tools):
 
     def test_the_attribute_of_a_file_in_a_folder(self):
         os.mkdir(self.at("tree"))
-        try:
-            os.setxattr(self.write("tree/f", b""), "user.ecryptfs", b"\0\xff\n")
-        except OSError as error:
-            if error.errno != errno.ENOTSUP:
-                raise
-            self.skipTest("the file system has no attributes")
+        self.set_attribute(self.write("tree/f", b""), b"\0\xff\n")
         self.assertEqual(image_in(self.packed("tree")), b"ECRYIMG1\0\0\0\1\0\1\1\1f\1\0\0\0\3\0\xff\n\0\0\0\0")
 
     def test_the_attribute_of_a_file_in_a_tar_file(self):
@@ -283,6 +290,14 @@ class Pack(Tools):
         self.assertIn(b"\nsalt 0123456789abcdef\n", ran.stdout)
         self.assertEqual(self.run_tool("pack", "tree").returncode, 1)
 
+    def test_a_script_stands_in_the_job_as_it_stands_in_its_file(self):
+        os.mkdir(self.at("tree"))
+        scripts = {b"": b"script 0\n", b"mkdir /a\nlist /\n": b"script 2\nmkdir /a\nlist /\n", b"\nno line": b"script 2\n\nno line\n"}
+        for script, lines in scripts.items():
+            self.write("script", script)
+            self.assertEqual(self.packed("tree", "--script", self.at("script")), job(b"ECRYIMG1\0\0\0\0", lines))
+        self.refused(self.pack("tree", "--script", "away"), b"away: No such file or directory")
+
     def test_no_argument_takes_a_passphrase(self):
         os.mkdir(self.at("tree"))
         for words in (["--passphrase", "test"], ["--salt", "0011223344556677"], ["test"]):
@@ -313,10 +328,19 @@ class Unpack(Tools):
 
     def test_bad_and_foreign_entries_are_named_and_left_out(self):
         ran = self.unpack(b"d 1 /a", b"f 2 /a/b bad marker 11223344 2da384b0", b"f 3 /a/c empty", b"x 4 /a/d")
-        self.assertEqual((ran.returncode, ran.stderr.count(b"\n")), (0, 2))
+        self.assertEqual((ran.returncode, ran.stderr.count(b"\n")), (3, 3))
         self.assertIn(b"bad marker 11223344 2da384b0: /a/b\n", ran.stderr)
         self.assertIn(b"foreign: /a/d\n", ran.stderr)
+        self.assertIn(b"unpack: 2 of 4 entries were left out\n", ran.stderr)
         self.assertEqual(files_below(self.at("folder")), {b"a/c": b""})
+
+    def test_a_passphrase_that_opens_no_file_is_told(self):
+        wrong_key = b"bad wrongkey 0011223344556677 8899aabbccddeeff"
+        ran = self.unpack(b"f 1 /a " + wrong_key, b"f 2 /b empty", b"f 3 /c bad version 4")
+        self.assertEqual((ran.returncode, ran.stderr.count(b"\n")), (3, 3))
+        self.assertTrue(ran.stderr.endswith(b"\nunpack: no file opens with this passphrase and salt\n"), ran.stderr)
+        ran = self.unpack(b"f 1 /a " + wrong_key, b"f 2 /b good 0 -", folder="other")
+        self.assertTrue(ran.stderr.endswith(b"\nunpack: 1 of 2 entries were left out\n"), ran.stderr)
 
     def test_an_empty_folder_is_taken_and_another_refused(self):
         os.mkdir(self.at("empty"))
@@ -378,6 +402,81 @@ class Unpack(Tools):
         self.assertEqual(files_below(self.at("folder")), {b"a": b"A"})
 
 
+class UnpackReport(Tools):
+    """The lower tree of a report, as a folder and as a tar file."""
+
+    DIRECTORY = b"\0\1\0\1b"
+    ATTRIBUTE = bytes(range(256))
+    FILES = b"\0\2\1\2g\xff\1\0\0\1\0" + ATTRIBUTE + b"\0\0\0\2xy" + b"\0\1\1\1c\0\0\0\0\0"
+    IMAGE = b"ECRYIMG1\0\0\0\3" + DIRECTORY + FILES
+
+    def unpack(self, *words, given=report(IMAGE)):
+        return self.run_tool("unpack", *words, given=given)
+
+    def unpacked(self, *words):
+        ran = self.unpack(*words)
+        self.assertEqual((ran.returncode, ran.stdout, ran.stderr), (0, b"", b""))
+
+    def test_a_folder_has_the_files_and_their_attributes(self):
+        self.set_attribute(self.write("f", b""), b"")
+        self.unpacked("folder")
+        self.assertEqual(files_below(self.at("folder")), {b"b/g\xff": b"xy", b"c": b""})
+        self.assertEqual(image_in(self.packed("folder")), self.IMAGE)
+
+    def test_a_tar_file_has_the_files_and_their_attributes(self):
+        self.unpacked("--tar", "tree.tar")
+        self.assertEqual(image_in(self.packed("tree.tar")), self.IMAGE)
+        self.refused(self.unpack("--tar", "tree.tar"), b"tree.tar: File exists")
+
+    def test_the_tar_program_sets_the_attributes(self):
+        self.set_attribute(self.write("f", b""), b"")
+        self.unpacked("--tar", "tree.tar")
+        os.mkdir(self.at("folder"))
+        words = ["--xattrs", "--xattrs-include=user.*", "-C", self.at("folder"), "-xf", self.at("tree.tar")]
+        subprocess.run(["tar", *words], check=True, stderr=subprocess.DEVNULL)
+        self.assertEqual(image_in(self.packed("folder")), self.IMAGE)
+
+    def test_reports_that_are_none_are_refused(self):
+        whole = report(self.IMAGE)
+        texts = [whole[:length] for length in range(0, len(whole), 17)]
+        texts += [whole + b"\n", whole.replace(b"tree 2", b"tree 3"), whole.replace(b"ok\n", b"", 1), whole.replace(b"image", b"image 1")]
+        for text in texts:
+            with self.subTest(text):
+                self.refused(self.unpack("folder", given=text), b"unpack: ")
+                self.assertFalse(os.path.exists(self.at("folder")))
+
+    def test_images_that_are_none_are_refused(self):
+        faults = {
+            b"\0\0\0\1b": b"no directory is open at its level",
+            b"\0\2\0\1b": b"no directory is open at its level",
+            b"\0\1\2\1b\0\0\0\0\0": b"it is neither a directory nor a file",
+            b"\0\1\1\1b\2\0\0\0\0": b"it is neither a directory nor a file",
+            b"\0\1\1\1b\0\0\0\0\1": b"the image is cut",
+            b"\0\1\0\0": b"the path would leave the folder",
+            b"\0\1\0\2..": b"the path would leave the folder",
+            b"\0\1\0\3a/b": b"the path would leave the folder",
+        }
+        for entry, why in faults.items():
+            with self.subTest(why):
+                given = report(b"ECRYIMG1\0\0\0\1" + entry)
+                self.refused(self.unpack("folder", given=given), b"entry 1 of the image: " + why)
+        twice = b"ECRYIMG1\0\0\0\2" + 2 * self.DIRECTORY
+        self.refused(self.unpack("folder", given=report(twice)), b"entry 2 of the image: the path stands there twice")
+        self.refused(self.unpack("folder", given=report(self.IMAGE + b"\0")), b"something follows the last entry")
+        self.assertFalse(os.path.exists(self.at("folder")))
+
+
+class Documents(unittest.TestCase):
+    def test_links_and_files_that_are_named_are_there(self):
+        for name in subprocess.run(["git", "ls-files", "*.md"], cwd=TOP, capture_output=True, text=True, check=True).stdout.split():
+            text = read(os.path.join(TOP, name)).decode()
+            links = [os.path.join(os.path.dirname(name), link) for link in re.findall(r"\]\(([^():#]+)\)", text)]
+            sources = [f"crates/{source}" for source in re.findall(r"`([a-z0-9_]+/(?:src|specs|proofs)/[A-Za-z0-9_/]+\.(?:rt|antt))`", text)]
+            for path in links + sources:
+                with self.subTest(name):
+                    self.assertTrue(os.path.exists(os.path.join(TOP, path)), f"there is no {path}")
+
+
 class Help(Tools):
     def test_the_tools_say_that_they_are_unproved(self):
         for name in ("pack", "unpack"):
@@ -387,14 +486,13 @@ class Help(Tools):
 
 
 class Trip(Tools):
-    """Trees that Linux wrote go from a tar file or a folder into a job, over the program's show into a folder."""
+    """Trees that Linux wrote go from a tar file or a folder into a job, and over the program into a folder or a tar file."""
 
     def linux(self, name):
-        image = image_in(read(os.path.join(LINUX, name + ".job")))
-        text = read(os.path.join(LINUX, name + ".show"))
-        given = re.search(rb"\npassphrase ([0-9a-f]+)\n", read(os.path.join(LINUX, name + ".job")))[1]
+        packed = read(os.path.join(LINUX, name + ".job"))
+        given = re.search(rb"\npassphrase ([0-9a-f]+)\n", packed)[1]
         self.write("passphrase", bytes.fromhex(given.decode()))
-        return image, text
+        return image_in(packed), read(os.path.join(LINUX, name + ".show"))
 
     def tar_of(self, image):
         members = []
@@ -414,23 +512,20 @@ class Trip(Tools):
             attribute, body = file
             self.write(path, body)
             if attribute is not None:
-                os.setxattr(path, "user.ecryptfs", attribute)
+                self.set_attribute(path, attribute)
         return self.at("tree")
 
-    def shown(self, packed, text):
-        """What the program shows of the job, or the text that was wanted where there is no program."""
-        if not sys.argv[1:] and not os.path.exists(PROGRAM):
-            print(f"(there is no program {PROGRAM}: the trip goes on with the text beside the job)")
-            return text
-        ran = subprocess.run([PROGRAM, "show"], input=packed, capture_output=True)
+    def output(self, command, given):
+        ran = subprocess.run([PROGRAM, command], input=given, capture_output=True)
         self.assertEqual((ran.returncode, ran.stderr), (0, b""))
         return ran.stdout
 
     def travel(self, name, tree_of):
+        """Over show: the contents are those of the show text."""
         image, text = self.linux(name)
         packed = self.packed(tree_of(image))
         self.assertEqual(image_in(packed), image)
-        shown = self.shown(packed, text)
+        shown = self.output("show", packed)
         self.assertEqual(shown, text)
         self.assertEqual(self.run_tool("unpack", "folder", given=shown).returncode, 0)
         wanted = shown_files(text)
@@ -447,12 +542,31 @@ class Trip(Tools):
         self.travel("linux_header_plain", self.folder_of)
 
     def test_a_folder_with_attributes(self):
-        try:
-            self.travel("linux_attribute_plain", self.folder_of)
-        except OSError as error:
-            if error.errno != errno.ENOTSUP:
-                raise
-            self.skipTest("the file system has no attributes")
+        self.travel("linux_attribute_plain", self.folder_of)
+
+    def change(self, name):
+        """Over replay: the lower tree afterwards has a directory more, and its files have the octets that they had."""
+        image, text = self.linux(name)
+        script = self.write("script", b"mkdir /new\nlist /new\n")
+        packed = self.packed(self.tar_of(image), "--script", script)
+        given = self.output("replay", packed)
+        self.assertTrue(given.startswith(b"ecryptfs-report 1\nsession 0 2\nok\nnames\n"), given[:100])
+        self.assertEqual(self.run_tool("unpack", "--tar", "after.tar", given=given).returncode, 0)
+        after = self.packed("after.tar")
+        self.assertEqual(dict(entries_of(image_in(after))), {**dict(entries_of(image)), b"new": None})
+        self.assertEqual(shown_files(self.output("show", after)), shown_files(text))
+
+    def test_a_script_on_a_tree_with_headers(self):
+        self.change("linux_header_plain")
+
+    def test_a_script_on_a_tree_with_attributes(self):
+        self.change("linux_attribute_plain")
+
+    def test_lines_of_a_script_are_judged_by_the_program(self):
+        os.mkdir(self.at("tree"))
+        packed = self.packed("tree", "--script", self.write("script", b"mkdir a\n"))
+        ran = subprocess.run([PROGRAM, "replay"], input=packed, capture_output=True)
+        self.assertEqual((ran.returncode, ran.stdout, ran.stderr), (3, b"", b"ecryptfs: bad job\n"))
 
 
 def main():
