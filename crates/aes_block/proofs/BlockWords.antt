@@ -3,7 +3,7 @@ use Rattle.std.proofs.Common.{◌≡◌, ℕ, ◌+◌, ◌*◌, ◌/◌, ◌%◌
 use Rattle.std.specs.Prelude.{slice_index}
 use Rattle.std.specs.Int.{w32, w64, w128, from_le_bytes, swap_bytes, to_le_bytes}
 use Rattle.cipher_model.specs.Aes.{word, byte_of, bytes_at}
-use Rattle.cipher_model.specs.Blocks.{AreOctets}
+use Rattle.octet_model.specs.Octets.{AreOctets}
 use Rattle.cipher_model.proofs.BlockNumbers.{AreOctets-eight, octets-of_halves}
 use Rattle.aes_block.proofs.WordBytes.{byte_of-lt, byte_of-word0, byte_of-word1, byte_of-word2, byte_of-word3}
 

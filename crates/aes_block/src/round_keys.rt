@@ -1,14 +1,14 @@
 // A key, ready for use.
-ghost use Rattle.std.specs.Prelude.{◌≡◌, ◌≤◌, List, ℕ};
+ghost use Rattle.std.specs.Prelude.{◌≡◌, ◌≤◌, List, ℕ, Some, codes};
 ghost use Rattle.cipher_model.specs.Aes.{IsBlock};
 
 use crate::{cipher, inverse, keys, words};
+use std::fmt::{self, Debug, Formatter, Write};
 use std::marker::Model;
 
-/// A key of 16 octets with the round keys that FIPS 197, 5.2, makes of it. A clause sees it as the list of the key's octets.
+/// The round keys of a key of 16 octets (FIPS 197, 5.2). A clause sees them as the list of the key's octets.
 #[derive(Drop)]
 pub struct RoundKeys {
-    key: [u8; 16],
     words: [u32; 44],
     // The words under InvMixColumns.
     unmixed: [u32; 44],
@@ -16,13 +16,15 @@ pub struct RoundKeys {
 
 impl Model for RoundKeys {
     ghost use Rattle.std.specs.Prelude.{List, ℕ};
+    ghost use Rattle.cipher_model.specs.Aes.{bytes_at};
     ghost use Rattle.aes_block.specs.Words.{AreKeyWords};
 
     ghost Value = { List ℕ };
 
-    ghost view = { λ k. k.key };
+    // The first round key is the key.
+    ghost view = { λ k. bytes_at k.words 0 };
 
-    ghost invariant = { λ k. AreKeyWords k.key k.words k.unmixed };
+    ghost invariant = { λ k. AreKeyWords (bytes_at k.words 0) k.words k.unmixed };
 }
 
 impl RoundKeys {
@@ -35,24 +37,15 @@ impl RoundKeys {
     {
         let words = keys::key_schedule(key);
         let unmixed = inverse::unmixed_words(&words);
-        RoundKeys {
-            key: *key,
-            words,
-            unmixed,
-        }
-    }
-
-    /// The key itself.
-    pub fn key(&self) -> [u8; 16]
-        ensures { result ≡ self.now }
-    {
-        self.key
+        RoundKeys { words, unmixed }
     }
 
     /// The round key that is added after round `r`, or before the first for 0, as 16 octets (FIPS 197, 5.1.4).
     pub fn round_key(&self, r: usize) -> [u8; 16]
         requires { r ≤ 10 }
-        ensures { result ≡ round_key self.now r }
+        ensures value { result ≡ round_key self.now r }
+        // The first of them is the key.
+        ensures first { round_key self.now 0 ≡ self.now }
     {
         words::number_of(words::key_at(&self.words, 4 * r)).to_le_bytes()
     }
@@ -91,5 +84,14 @@ impl RoundKeys {
         let cipher = u128::from_le_bytes(*block);
         let plain = inverse::decrypted_number(&self.unmixed, &self.words, cipher);
         *block = plain.to_le_bytes();
+    }
+}
+
+// The name alone.
+impl Debug for RoundKeys {
+    ghost debug_output = { λ _. Some (codes "RoundKeys") };
+
+    fn fmt<W: Write>(&self, f: &mut Formatter<W>) -> fmt::Result {
+        f.write_str("RoundKeys")
     }
 }

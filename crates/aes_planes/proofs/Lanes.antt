@@ -6,6 +6,7 @@ use Rattle.std.proofs.lemmas.Nat.{and_shr, and_mod, xor_shr, xor_mod, shr-shr, s
 use Rattle.std.proofs.lemmas.Nat.Bits.{bit_at_ones, bit_at-lt, bit_at_cat_low, bit_at_cat_high, bit_at-zero}
 use Rattle.std.proofs.lemmas.Simd.{get_or-zip2, get_or-replicate, length-zip2}
 use lib.Lanes.{zip2, Each1}
+use Rattle.cipher_model.proofs.States.{IsBlock-from_each}
 use Rattle.cipher_model.specs.Aes.{IsBlock}
 use lib.Bits.{and_zero_r, xor_zero_r, xor_self, xor_assoc}
 use Rattle.std.specs.Int.{bit_at}
@@ -119,4 +120,4 @@ lane_fits (x ∷ xs) zero h = h.0.fits
 lane_fits (x ∷ xs) (suc i) h = lane_fits xs i h.1
 
 pub is_block : (v : List ℕ) → length v ≡ 16 → Each1 (Fits w8) v → IsBlock v
-is_block v long fits = record { long = long; bytes = λ i. lane_fits v i fits }
+is_block v long fits = IsBlock-from_each v long (λ i. lane_fits v i fits)

@@ -12,7 +12,7 @@ use Rattle.cipher_model.specs.Aes.{IsBlock, each_byte, below, add_round_key, mix
 use Rattle.cipher_model.proofs.FieldLaws.{xor_exchange, times_x-xor, times_x-lt, product_of_bits-xor}
 use Rattle.cipher_model.proofs.Tables.{same_at}
 use Rattle.cipher_model.proofs.MixLaws.{sum4, turned}
-use Rattle.cipher_model.proofs.States.{each_byte_same, each_byte_whole}
+use Rattle.cipher_model.proofs.States.{block_byte, each_byte_same, each_byte_whole}
 use native.Mathlib.Nat.{div-one}
 use Rattle.std.specs.Int.{bit_at}
 use Rattle.aes_planes.specs.declared.planes.Planes.{Planes}
@@ -186,7 +186,7 @@ from_lane q p m block e =
     let t : (b : ℕ) → b < 8 → (i : ℕ) → i < 16 → bit_of p i b ≡ bit_of (plane q b) i m = e in
     sym (each_byte_whole p block.long)
     ∙ each_byte_same (λ i. slice_index p i) (λ i. byte_in q i m) (λ i hi.
-    sym (byte_whole (slice_index p i) (block.bytes i))
+    sym (byte_whole (slice_index p i) (block_byte p i block))
     ∙ (λ j. from_bits (t 0 (omega arith) i hi j) (t 1 (omega arith) i hi j) (t 2 (omega arith) i hi j) (t 3 (omega arith) i hi j)
     (t 4 (omega arith) i hi j) (t 5 (omega arith) i hi j) (t 6 (omega arith) i hi j) (t 7 (omega arith) i hi j)))
 

@@ -31,6 +31,11 @@ second_exchanged n a b i m = if m / n % 2 == 0 then bit_of a i (m + n) else bit_
 abbrev pub plane : Planes → ℕ → List ℕ
 plane q m = slice_index_or (q.p0 ∷ q.p1 ∷ q.p2 ∷ q.p3 ∷ q.p4 ∷ q.p5 ∷ q.p6 ∷ q.p7 ∷ []) m []
 
+-- the first block in the planes of the first round key
+abbrev pub first_block : List Planes → List ℕ
+first_block [] = []
+first_block (q ∷ rounds) = block_in q 0
+
 -- each block of the planes of round r is the round key r of the key k
 abbrev pub AreRoundKeys : List ℕ → List Planes → Type 0
 AreRoundKeys k rounds = (r : ℕ) → r < 11 → (d : Planes) → (m : ℕ) → m < 8 → block_in (slice_index_or rounds r d) m ≡ round_key k r

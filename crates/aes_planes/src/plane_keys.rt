@@ -8,6 +8,7 @@ use crate::steps::{add, inv_mix, inv_shift};
 use crate::sub_bytes::inv_sub_bits;
 use crate::transpose::transposed;
 use aes_block::RoundKeys;
+use std::fmt::{self, Debug, Formatter, Write};
 use std::marker::Model;
 use std::simd::prelude::*;
 
@@ -46,8 +47,10 @@ fn repeated(block: [u8; 16]) -> Planes
 // The inverse cipher on planes, with the round keys in planes.
 #[inline(always)]
 fn decrypted(rounds: &[Planes; 11], q: Planes) -> Planes
-    ensures { (k : List ℕ) → length k ≡ 16 → AreRoundKeys k rounds.now
+    ensures value { (k : List ℕ) → length k ≡ 16 → AreRoundKeys k rounds.now
         → (m : ℕ) → m < 8 → block_in result m ≡ decrypted k (block_in q m) }
+    // What the type says, for the caller.
+    ensures long { length rounds.now ≡ 11 }
 {
     let mut s = add(q, rounds[10]);
     'rounds: for r in 1..10 {
@@ -56,22 +59,22 @@ fn decrypted(rounds: &[Planes; 11], q: Planes) -> Planes
     last_unround(s, rounds[0])
 }
 
-/// The round keys of a key of 16 octets in planes. A clause sees it as the list of the key's octets.
+/// The round keys of a key of 16 octets in planes. A clause sees them as the list of the key's octets.
 #[derive(Drop)]
 pub struct PlaneKeys {
-    key: [u8; 16],
     rounds: [Planes; 11],
 }
 
 impl Model for PlaneKeys {
     ghost use Rattle.std.specs.Prelude.{List, ℕ};
-    ghost use Rattle.aes_planes.specs.Planes.{AreRoundKeys};
+    ghost use Rattle.aes_planes.specs.Planes.{AreRoundKeys, first_block};
 
     ghost Value = { List ℕ };
 
-    ghost view = { λ k. k.key };
+    // The first round key is the key.
+    ghost view = { λ k. first_block k.rounds };
 
-    ghost invariant = { λ k. AreRoundKeys k.key k.rounds };
+    ghost invariant = { λ k. AreRoundKeys (first_block k.rounds) k.rounds };
 }
 
 impl PlaneKeys {
@@ -83,14 +86,12 @@ impl PlaneKeys {
     pub fn new(keys: &RoundKeys) -> PlaneKeys
         ensures { result ≡ keys.now }
     {
-        let mut rounds = [repeated([0u8; 16]); 11];
-        'keys: for r in 0..11 {
+        let first = repeated(keys.round_key(0));
+        let mut rounds = [first; 11];
+        'keys: for r in 1..11 {
             rounds[r] = repeated(keys.round_key(r));
         }
-        PlaneKeys {
-            key: keys.key(),
-            rounds,
-        }
+        PlaneKeys { rounds }
     }
 
     /// Decrypts eight blocks (FIPS 197, 5.3).
@@ -101,5 +102,16 @@ impl PlaneKeys {
         let planes = transposed(blocks);
         let plain = decrypted(&self.rounds, planes);
         transposed(plain)
+    }
+}
+
+// The name alone.
+impl Debug for PlaneKeys {
+    ghost use Rattle.std.specs.Prelude.{Some, codes};
+
+    ghost debug_output = { λ _. Some (codes "PlaneKeys") };
+
+    fn fmt<W: Write>(&self, f: &mut Formatter<W>) -> fmt::Result {
+        f.write_str("PlaneKeys")
     }
 }

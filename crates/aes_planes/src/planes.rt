@@ -8,7 +8,7 @@ use std::simd::prelude::*;
 
 /// Eight vectors of 16 octets: eight blocks, one in each, or the bit planes of those blocks, where bit `m` of lane `i` of plane `b` is
 /// bit `b` of octet `i` of block `m`.
-#[derive(Clone, Copy)]
+#[derive(Clone, Copy, Debug)]
 pub struct Planes {
     pub p0: u8x16,
     pub p1: u8x16,
@@ -50,10 +50,38 @@ pub fn known(a: u8x16) -> u8x16
     a
 }
 
+// The planes themselves, with what their types say.
 #[inline(always)]
 pub fn known_all(q: Planes) -> Planes
     ensures value { result ≡ q }
     ensures blocks { (m : ℕ) → m < 8 → IsBlock (plane result m) }
 {
-    q
+    let Planes {
+        p0: q0,
+        p1: q1,
+        p2: q2,
+        p3: q3,
+        p4: q4,
+        p5: q5,
+        p6: q6,
+        p7: q7,
+    } = q;
+    let r0 = known(q0);
+    let r1 = known(q1);
+    let r2 = known(q2);
+    let r3 = known(q3);
+    let r4 = known(q4);
+    let r5 = known(q5);
+    let r6 = known(q6);
+    let r7 = known(q7);
+    Planes {
+        p0: r0,
+        p1: r1,
+        p2: r2,
+        p3: r3,
+        p4: r4,
+        p5: r5,
+        p6: r6,
+        p7: r7,
+    }
 }

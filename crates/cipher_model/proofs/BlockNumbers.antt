@@ -3,9 +3,10 @@ use Rattle.std.proofs.Common.{◌≡◌, ℕ, zero, suc, ◌+◌, ◌*◌, ◌/�
 use Rattle.std.proofs.lemmas.Nat.{le_bytes_8, xor_shr, xor_mod}
 use Rattle.std.specs.Int.{w64, w128, byte_at, from_le_bytes, to_le_bytes}
 use Rattle.std.specs.Prelude.{slice_index}
+use Rattle.octet_model.specs.Octets.{AreOctets}
+use Rattle.octet_model.proofs.Octets.{octet_at}
 use Rattle.cipher_model.specs.Aes.{IsBlock, xor_blocks}
-use Rattle.cipher_model.specs.Blocks.{AreOctets}
-use Rattle.cipher_model.proofs.States.{IsBlock-each_byte, each_byte_whole}
+use Rattle.cipher_model.proofs.States.{block_byte, IsBlock-each_byte, each_byte_whole}
 
 byte_at-lt : (i n : ℕ) → byte_at i n < 256
 byte_at-lt zero n = omega arith
@@ -45,20 +46,10 @@ octets-halves low high hl hh =
     let f7 : n / 256 ^ 15 % 256 ≡ high / 256 ^ 7 % 256 = omega arith in
     λ t. e0 t ∷ e1 t ∷ e2 t ∷ e3 t ∷ e4 t ∷ e5 t ∷ e6 t ∷ e7 t ∷ f0 t ∷ f1 t ∷ f2 t ∷ f3 t ∷ f4 t ∷ f5 t ∷ f6 t ∷ f7 t ∷ []
 
-AreOctets-cons : (x : ℕ) (xs : List ℕ) → x < 256 → AreOctets xs → AreOctets (x ∷ xs)
-AreOctets-cons x xs h hs zero = h
-AreOctets-cons x xs h hs (suc i) = hs i
-
-AreOctets-nil : AreOctets []
-AreOctets-nil i = omega arith
-
+-- eight octets
 pub AreOctets-eight : (a b c d e f g h : ℕ) → a < 256 → b < 256 → c < 256 → d < 256 → e < 256 → f < 256 → g < 256 → h < 256
     → AreOctets (a ∷ b ∷ c ∷ d ∷ e ∷ f ∷ g ∷ h ∷ [])
-AreOctets-eight a b c d e f g h ha hb hc hd he hf hg hh =
-    AreOctets-cons a (b ∷ c ∷ d ∷ e ∷ f ∷ g ∷ h ∷ []) ha (AreOctets-cons b (c ∷ d ∷ e ∷ f ∷ g ∷ h ∷ []) hb (
-    AreOctets-cons c (d ∷ e ∷ f ∷ g ∷ h ∷ []) hc (AreOctets-cons d (e ∷ f ∷ g ∷ h ∷ []) hd (
-    AreOctets-cons e (f ∷ g ∷ h ∷ []) he (AreOctets-cons f (g ∷ h ∷ []) hf (
-    AreOctets-cons g (h ∷ []) hg (AreOctets-cons h [] hh AreOctets-nil)))))))
+AreOctets-eight a b c d e f g h ha hb hc hd he hf hg hh = (ha, (hb, (hc, (hd, (he, (hf, (hg, (hh, tt))))))))
 
 -- the octets of a number whose halves have the octets l and h
 pub octets-of_halves : (n low high : ℕ) (l h : List ℕ) → length l ≡ 8 → length h ≡ 8 → AreOctets l → AreOctets h
@@ -66,7 +57,7 @@ pub octets-of_halves : (n low high : ℕ) (l h : List ℕ) → length l ≡ 8 �
     → to_le_bytes w128 n ≡ l ++ h
 octets-of_halves n low high l h longl longh octetsl octetsh el eh hl hh e =
     ap (λ (x : ℕ). to_le_bytes w128 x) e ∙ octets-halves low high hl hh
-    ∙ (λ t. le_bytes_8 l low longl octetsl el t ++ le_bytes_8 h high longh octetsh eh t)
+    ∙ (λ t. le_bytes_8 l low longl (λ i. octet_at l i octetsl) el t ++ le_bytes_8 h high longh (λ i. octet_at h i octetsh) eh t)
 
 sum16 : (a0 a1 a2 a3 a4 a5 a6 a7 a8 a9 a10 a11 a12 a13 a14 a15 : ℕ)
     → from_le_bytes w128 (a0 ∷ a1 ∷ a2 ∷ a3 ∷ a4 ∷ a5 ∷ a6 ∷ a7 ∷ a8 ∷ a9 ∷ a10 ∷ a11 ∷ a12 ∷ a13 ∷ a14 ∷ a15 ∷ [])
@@ -83,14 +74,16 @@ eight b k =
     slice_index b k ∷ slice_index b (k + 1) ∷ slice_index b (k + 2) ∷ slice_index b (k + 3)
     ∷ slice_index b (k + 4) ∷ slice_index b (k + 5) ∷ slice_index b (k + 6) ∷ slice_index b (k + 7) ∷ []
 
-eight-lt : (b : List ℕ) (k : ℕ) → AreOctets b → from_le_bytes w64 (eight b k) < 2 ^ 64
-eight-lt b k lt =
+eight-lt : (b : List ℕ) (k : ℕ) → IsBlock b → from_le_bytes w64 (eight b k) < 2 ^ 64
+eight-lt b k block =
+    let lt : (i : ℕ) → slice_index b i < 256 = λ i. block_byte b i block in
     sum8-lt (slice_index b k) (slice_index b (k + 1)) (slice_index b (k + 2)) (slice_index b (k + 3))
     (slice_index b (k + 4)) (slice_index b (k + 5)) (slice_index b (k + 6)) (slice_index b (k + 7))
     (lt k) (lt (k + 1)) (lt (k + 2)) (lt (k + 3)) (lt (k + 4)) (lt (k + 5)) (lt (k + 6)) (lt (k + 7))
 
-AreOctets-eight_of : (b : List ℕ) (k : ℕ) → AreOctets b → AreOctets (eight b k)
-AreOctets-eight_of b k lt =
+AreOctets-eight_of : (b : List ℕ) (k : ℕ) → IsBlock b → AreOctets (eight b k)
+AreOctets-eight_of b k block =
+    let lt : (i : ℕ) → slice_index b i < 256 = λ i. block_byte b i block in
     AreOctets-eight (slice_index b k) (slice_index b (k + 1)) (slice_index b (k + 2)) (slice_index b (k + 3))
     (slice_index b (k + 4)) (slice_index b (k + 5)) (slice_index b (k + 6)) (slice_index b (k + 7))
     (lt k) (lt (k + 1)) (lt (k + 2)) (lt (k + 3)) (lt (k + 4)) (lt (k + 5)) (lt (k + 6)) (lt (k + 7))
@@ -100,6 +93,6 @@ pub octets-from : (b : List ℕ) (n : ℕ) → IsBlock b → n ≡ from_le_bytes
 octets-from b n block e =
     let at : ℕ → ℕ = λ i. slice_index b i in
     octets-of_halves n (from_le_bytes w64 (eight b 0)) (from_le_bytes w64 (eight b 8)) (eight b 0) (eight b 8) refl refl
-    (AreOctets-eight_of b 0 block.bytes) (AreOctets-eight_of b 8 block.bytes) refl refl (eight-lt b 0 block.bytes) (eight-lt b 8 block.bytes)
+    (AreOctets-eight_of b 0 block) (AreOctets-eight_of b 8 block) refl refl (eight-lt b 0 block) (eight-lt b 8 block)
     (e ∙ sum16 (at 0) (at 1) (at 2) (at 3) (at 4) (at 5) (at 6) (at 7) (at 8) (at 9) (at 10) (at 11) (at 12) (at 13) (at 14) (at 15))
     ∙ each_byte_whole b block.long

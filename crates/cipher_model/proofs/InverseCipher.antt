@@ -7,35 +7,35 @@ use Rattle.cipher_model.specs.Field.{sub_byte, inv_sub_byte}
 use Rattle.cipher_model.specs.Aes.{IsBlock, each_byte, below, sub_bytes, shift_rows, mix_columns, add_round_key, inv_sub_bytes, inv_shift_rows, inv_mix_columns, unrounded, unrounds, rounds, encrypted_with, decrypted_with, bytes_at, byte_of, mixed_byte, inv_mixed_byte, round_count, word_count, key_schedule, encrypted, decrypted, round_key}
 use Rattle.cipher_model.proofs.SubByteLaws.{sub_byte-lt, inv_sub_byte-lt, inv_sub_byte-sub_byte, sub_byte-inv_sub_byte}
 use Rattle.cipher_model.proofs.MixLaws.{inv_mixed_byte-mixed_byte, mixed_byte-inv_mixed_byte, mixed_byte-lt, inv_mixed_byte-lt}
-use Rattle.cipher_model.proofs.States.{each_byte_whole, IsBlock-each_byte, whole_from}
+use Rattle.cipher_model.proofs.States.{block_byte, each_byte_whole, IsBlock-each_byte, whole_from}
 
 -- ---- each step keeps blocks
 
 pub IsBlock-sub_bytes : (s : List ℕ) → IsBlock s → IsBlock (sub_bytes s)
-IsBlock-sub_bytes s b = IsBlock-each_byte (λ i. sub_byte (slice_index s i)) (λ i h. sub_byte-lt (slice_index s i) (b.bytes i))
+IsBlock-sub_bytes s b = IsBlock-each_byte (λ i. sub_byte (slice_index s i)) (λ i h. sub_byte-lt (slice_index s i) (block_byte s i b))
 
 pub IsBlock-inv_sub_bytes : (s : List ℕ) → IsBlock s → IsBlock (inv_sub_bytes s)
-IsBlock-inv_sub_bytes s b = IsBlock-each_byte (λ i. inv_sub_byte (slice_index s i)) (λ i h. inv_sub_byte-lt (slice_index s i) (b.bytes i))
+IsBlock-inv_sub_bytes s b = IsBlock-each_byte (λ i. inv_sub_byte (slice_index s i)) (λ i h. inv_sub_byte-lt (slice_index s i) (block_byte s i b))
 
 pub IsBlock-shift_rows : (s : List ℕ) → IsBlock s → IsBlock (shift_rows s)
-IsBlock-shift_rows s b = IsBlock-each_byte (λ i. slice_index s ((i + 4 * (i % 4)) % 16)) (λ i h. b.bytes ((i + 4 * (i % 4)) % 16))
+IsBlock-shift_rows s b = IsBlock-each_byte (λ i. slice_index s ((i + 4 * (i % 4)) % 16)) (λ i h. block_byte s ((i + 4 * (i % 4)) % 16) b)
 
 pub IsBlock-inv_shift_rows : (s : List ℕ) → IsBlock s → IsBlock (inv_shift_rows s)
-IsBlock-inv_shift_rows s b = IsBlock-each_byte (λ i. slice_index s ((i + 12 * (i % 4)) % 16)) (λ i h. b.bytes ((i + 12 * (i % 4)) % 16))
+IsBlock-inv_shift_rows s b = IsBlock-each_byte (λ i. slice_index s ((i + 12 * (i % 4)) % 16)) (λ i h. block_byte s ((i + 12 * (i % 4)) % 16) b)
 
 pub IsBlock-add_round_key : (s k : List ℕ) → IsBlock s → IsBlock k → IsBlock (add_round_key s k)
 IsBlock-add_round_key s k b c =
-    IsBlock-each_byte (λ i. bit_xor (slice_index s i) (slice_index k i)) (λ i h. xor_lt 8 (slice_index s i) (slice_index k i) (b.bytes i) (c.bytes i))
+    IsBlock-each_byte (λ i. bit_xor (slice_index s i) (slice_index k i)) (λ i h. xor_lt 8 (slice_index s i) (slice_index k i) (block_byte s i b) (block_byte k i c))
 
 pub IsBlock-mix_columns : (s : List ℕ) → IsBlock s → IsBlock (mix_columns s)
 IsBlock-mix_columns s b =
     IsBlock-each_byte (λ i. mixed_byte (below s i 0) (below s i 1) (below s i 2) (below s i 3))
-    (λ i h. mixed_byte-lt (below s i 0) (below s i 1) (below s i 2) (below s i 3) (b.bytes _) (b.bytes _) (b.bytes _) (b.bytes _))
+    (λ i h. mixed_byte-lt (below s i 0) (below s i 1) (below s i 2) (below s i 3) (block_byte s _ b) (block_byte s _ b) (block_byte s _ b) (block_byte s _ b))
 
 pub IsBlock-inv_mix_columns : (s : List ℕ) → IsBlock s → IsBlock (inv_mix_columns s)
 IsBlock-inv_mix_columns s b =
     IsBlock-each_byte (λ i. inv_mixed_byte (below s i 0) (below s i 1) (below s i 2) (below s i 3))
-    (λ i h. inv_mixed_byte-lt (below s i 0) (below s i 1) (below s i 2) (below s i 3) (b.bytes _) (b.bytes _) (b.bytes _) (b.bytes _))
+    (λ i h. inv_mixed_byte-lt (below s i 0) (below s i 1) (below s i 2) (below s i 3) (block_byte s _ b) (block_byte s _ b) (block_byte s _ b) (block_byte s _ b))
 
 -- ---- each step and its inverse
 
@@ -44,10 +44,10 @@ inv_sub-sub s b =
     each_byte_same16 (λ x. inv_sub_byte (sub_byte x)) s (λ x h. inv_sub_byte-sub_byte x h) b
   where
     each_byte_same16 : (f : ℕ → ℕ) (s : List ℕ) → ((x : ℕ) → x < 256 → f x ≡ x) → IsBlock s → each_byte (λ i. f (slice_index s i)) ≡ s
-    each_byte_same16 f s e b = whole_from s (λ i. f (slice_index s i)) b (λ i h. e (slice_index s i) (b.bytes i))
+    each_byte_same16 f s e b = whole_from s (λ i. f (slice_index s i)) b (λ i h. e (slice_index s i) (block_byte s i b))
 
 pub sub-inv_sub : (s : List ℕ) → IsBlock s → sub_bytes (inv_sub_bytes s) ≡ s
-sub-inv_sub s b = whole_from s (λ i. sub_byte (inv_sub_byte (slice_index s i))) b (λ i h. sub_byte-inv_sub_byte (slice_index s i) (b.bytes i))
+sub-inv_sub s b = whole_from s (λ i. sub_byte (inv_sub_byte (slice_index s i))) b (λ i h. sub_byte-inv_sub_byte (slice_index s i) (block_byte s i b))
 
 pub inv_shift-shift : (s : List ℕ) → IsBlock s → inv_shift_rows (shift_rows s) ≡ s
 inv_shift-shift s b = each_byte_whole s b.long
@@ -67,7 +67,7 @@ inv_mix-mix s b =
     (mixed_byte (slice_index s j) (slice_index s k) (slice_index s l) (slice_index s i))
     (mixed_byte (slice_index s k) (slice_index s l) (slice_index s i) (slice_index s j))
     (mixed_byte (slice_index s l) (slice_index s i) (slice_index s j) (slice_index s k)) ≡ slice_index s i =
-    λ i j k l. inv_mixed_byte-mixed_byte (slice_index s i) (slice_index s j) (slice_index s k) (slice_index s l) (b.bytes i) (b.bytes j) (b.bytes k) (b.bytes l) in
+    λ i j k l. inv_mixed_byte-mixed_byte (slice_index s i) (slice_index s j) (slice_index s k) (slice_index s l) (block_byte s i b) (block_byte s j b) (block_byte s k b) (block_byte s l b) in
     (λ t. e 0 1 2 3 t ∷ e 1 2 3 0 t ∷ e 2 3 0 1 t ∷ e 3 0 1 2 t ∷ e 4 5 6 7 t ∷ e 5 6 7 4 t ∷ e 6 7 4 5 t ∷ e 7 4 5 6 t
     ∷ e 8 9 10 11 t ∷ e 9 10 11 8 t ∷ e 10 11 8 9 t ∷ e 11 8 9 10 t ∷ e 12 13 14 15 t ∷ e 13 14 15 12 t ∷ e 14 15 12 13 t ∷ e 15 12 13 14 t ∷ [])
     ∙ each_byte_whole s b.long
@@ -78,7 +78,7 @@ mix-inv_mix s b =
     (inv_mixed_byte (slice_index s j) (slice_index s k) (slice_index s l) (slice_index s i))
     (inv_mixed_byte (slice_index s k) (slice_index s l) (slice_index s i) (slice_index s j))
     (inv_mixed_byte (slice_index s l) (slice_index s i) (slice_index s j) (slice_index s k)) ≡ slice_index s i =
-    λ i j k l. mixed_byte-inv_mixed_byte (slice_index s i) (slice_index s j) (slice_index s k) (slice_index s l) (b.bytes i) (b.bytes j) (b.bytes k) (b.bytes l) in
+    λ i j k l. mixed_byte-inv_mixed_byte (slice_index s i) (slice_index s j) (slice_index s k) (slice_index s l) (block_byte s i b) (block_byte s j b) (block_byte s k b) (block_byte s l b) in
     (λ t. e 0 1 2 3 t ∷ e 1 2 3 0 t ∷ e 2 3 0 1 t ∷ e 3 0 1 2 t ∷ e 4 5 6 7 t ∷ e 5 6 7 4 t ∷ e 6 7 4 5 t ∷ e 7 4 5 6 t
     ∷ e 8 9 10 11 t ∷ e 9 10 11 8 t ∷ e 10 11 8 9 t ∷ e 11 8 9 10 t ∷ e 12 13 14 15 t ∷ e 13 14 15 12 t ∷ e 14 15 12 13 t ∷ e 15 12 13 14 t ∷ [])
     ∙ each_byte_whole s b.long

@@ -1,7 +1,8 @@
 -- A cipher text has exactly one plain text.
 use Rattle.std.proofs.Common.{◌≡◌, ℕ, zero, suc, ◌%◌, ◌<◌, List, length, sym, ap, ◌∙◌, arith}
+use Rattle.octet_model.specs.Octets.{AreOctets}
 use Rattle.cipher_model.specs.Aes.{IsBlock, encrypted, decrypted, xor_blocks}
-use Rattle.cipher_model.specs.Blocks.{AreOctets, block_at, block_count, text_of}
+use Rattle.cipher_model.specs.Blocks.{block_at, block_count, text_of}
 use Rattle.cipher_model.specs.Cbc.{IsCbc, previous}
 use Rattle.cipher_model.specs.Ecb.{IsEcb}
 use Rattle.cipher_model.specs.Laws.{CbcHasOnePlainText, EcbHasOnePlainText}

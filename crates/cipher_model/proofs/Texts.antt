@@ -5,8 +5,11 @@ use Rattle.std.proofs.lemmas.Bool.{cases_lt}
 use Rattle.std.proofs.lemmas.List.{ext_get_or, get_or-take, get_or-drop, get_or_past}
 use Rattle.std.proofs.lemmas.List.Edits.{length-between}
 use Rattle.std.proofs.lemmas.List.FromFn.{length-map-range_with_len, get_or-map-range_with_len}
+use Rattle.octet_model.specs.Octets.{AreOctets}
+use Rattle.octet_model.proofs.Octets.{octet_at, AreOctets-from_each}
 use Rattle.cipher_model.specs.Aes.{IsBlock}
-use Rattle.cipher_model.specs.Blocks.{AreOctets, block_at, block_count, text_of}
+use Rattle.cipher_model.specs.Blocks.{block_at, block_count, text_of}
+use Rattle.cipher_model.proofs.States.{IsBlock-from_each}
 
 pub slice_index-block_at : (xs : List ℕ) (i j : ℕ) → j < 16 → slice_index (block_at xs i) j ≡ slice_index xs (16 * i + j)
 slice_index-block_at xs i j h =
@@ -18,19 +21,16 @@ length-block_at xs i h = omega (arith, length-between xs (16 * i) (16 * i + 16))
 
 -- a block whose octets are known is a block
 block_from : (b : List ℕ) (f : ℕ → ℕ) → length b ≡ 16 → ((j : ℕ) → j < 16 → slice_index b j ≡ f j) → ((j : ℕ) → j < 16 → f j < 256) → IsBlock b
-block_from b f long is lt = record {
-  long = long;
-  bytes = λ j. elim (cases_lt j 16) [
-    | inl less ↦ subst (λ (x : ℕ). x < 256) (sym (is j less)) (lt j less)
-    | inr past ↦
-        let none : slice_index b j ≡ 0 = get_or_past b j 0 (omega arith) in
-        omega arith
-  ];
-}
+block_from b f long is lt = IsBlock-from_each b long (λ j. elim (cases_lt j 16) [
+  | inl less ↦ subst (λ (x : ℕ). x < 256) (sym (is j less)) (lt j less)
+  | inr past ↦
+      let none : slice_index b j ≡ 0 = get_or_past b j 0 (omega arith) in
+      omega arith
+])
 
 pub IsBlock-block_at : (xs : List ℕ) (i : ℕ) → AreOctets xs → i < block_count xs → IsBlock (block_at xs i)
 IsBlock-block_at xs i octets h =
-    block_from (block_at xs i) (λ j. slice_index xs (16 * i + j)) (length-block_at xs i h) (λ j lt. slice_index-block_at xs i j lt) (λ j lt. octets (16 * i + j))
+    block_from (block_at xs i) (λ j. slice_index xs (16 * i + j)) (length-block_at xs i h) (λ j lt. slice_index-block_at xs i j lt) (λ j lt. octet_at xs (16 * i + j) octets)
 
 -- texts of whole blocks are one when their blocks are
 pub same_text : (xs ys : List ℕ) → length xs ≡ length ys → length xs % 16 ≡ 0 → ((i : ℕ) → i < block_count xs → block_at xs i ≡ block_at ys i) → xs ≡ ys
@@ -62,9 +62,9 @@ block_at-text_of f n i h long =
     ∙ (λ t. slice_index (f (quotient t)) (remainder t)))
 
 pub AreOctets-text_of : (f : ℕ → List ℕ) (n : ℕ) → ((i : ℕ) → i < n → AreOctets (f i)) → AreOctets (text_of f n)
-AreOctets-text_of f n octets j = elim (cases_lt j (16 * n)) [
-  | inl less ↦ subst (λ (x : ℕ). x < 256) (sym (slice_index-text_of f n j less)) (octets (j / 16) (omega arith) (j % 16))
+AreOctets-text_of f n octets = AreOctets-from_each (text_of f n) (λ j. elim (cases_lt j (16 * n)) [
+  | inl less ↦ subst (λ (x : ℕ). x < 256) (sym (slice_index-text_of f n j less)) (octet_at (f (j / 16)) (j % 16) (octets (j / 16) (omega arith)))
   | inr past ↦
       let none : slice_index (text_of f n) j ≡ 0 = get_or_past (text_of f n) j 0 (omega (arith, length-text_of f n)) in
       omega arith
-]
+])

@@ -1,15 +1,16 @@
 -- The Advanced Encryption Standard (FIPS 197) for keys of 16 and of 32 bytes.
 -- A state is a list of 16 bytes, of which byte r + 4 * c stands in row r and column c (3.4).
 -- A word is a number of 32 bits, whose first byte is the highest.
-use Rattle.std.specs.Prelude.{◌≡◌, ◌<◌, length, ℕ, zero, suc, ◌+◌, ◌-◌, ◌*◌, ◌/◌, ◌%◌, ◌^◌, ◌==◌, ◌&&◌, nat_lt, if◌then◌else◌, List, [], ◌∷◌, ◌++◌, map, bit_xor, slice_index}
+use Rattle.std.specs.Prelude.{◌≡◌, length, ℕ, zero, suc, ◌+◌, ◌-◌, ◌*◌, ◌/◌, ◌%◌, ◌^◌, ◌==◌, ◌&&◌, nat_lt, if◌then◌else◌, List, [], ◌∷◌, ◌++◌, map, bit_xor, slice_index}
 use Rattle.std.specs.List.{range_with_len}
 use Rattle.std.specs.Int.{w32, rotate_left}
+use Rattle.octet_model.specs.Octets.{AreOctets}
 use Rattle.cipher_model.specs.Field.{product, power, sub_byte, inv_sub_byte}
 
 -- a block: 16 bytes
 pub record IsBlock (b : List ℕ) : Type 0 where
   pub long : length b ≡ 16
-  pub bytes : (i : ℕ) → slice_index b i < 256
+  pub bytes : AreOctets b
 
 -- the state whose byte i is f i
 abbrev pub each_byte : (ℕ → ℕ) → List ℕ

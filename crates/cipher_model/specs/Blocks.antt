@@ -1,10 +1,6 @@
 -- A text as a list of blocks of 16 octets.
-use Rattle.std.specs.Prelude.{◌≡◌, ℕ, ◌+◌, ◌*◌, ◌/◌, ◌%◌, ◌<◌, List, length, map, slice_index, slice_range}
+use Rattle.std.specs.Prelude.{◌≡◌, ℕ, ◌+◌, ◌*◌, ◌/◌, ◌%◌, List, length, map, slice_index, slice_range}
 use Rattle.std.specs.List.{range_with_len}
-
--- each element is an octet
-abbrev pub AreOctets : List ℕ → Type 0
-AreOctets xs = (i : ℕ) → slice_index xs i < 256
 
 -- how many blocks a text has
 abbrev pub block_count : List ℕ → ℕ

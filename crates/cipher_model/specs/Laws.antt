@@ -1,8 +1,8 @@
 -- What is proved of the definitions.
 use Rattle.std.specs.Prelude.{◌≡◌, ℕ, ◌%◌, ◌<◌, List, length}
+use Rattle.octet_model.specs.Octets.{AreOctets}
 use Rattle.cipher_model.specs.Field.{product, inverse}
 use Rattle.cipher_model.specs.Aes.{IsBlock, encrypted, decrypted}
-use Rattle.cipher_model.specs.Blocks.{AreOctets}
 use Rattle.cipher_model.specs.Cbc.{IsCbc}
 use Rattle.cipher_model.specs.Ecb.{IsEcb}
 

@@ -1,8 +1,9 @@
 -- A lower file decodes to at most one content, since a cipher text has at most one plain text.
-use Rattle.std.proofs.Common.{◌≡◌, ℕ, ◌+◌, ◌-◌, ◌*◌, ◌/◌, ◌%◌, ◌<◌, List, [], ◌∷◌, length, take, get_or, Option, sym, ap, subst, ◌∙◌, arith}
+use Rattle.std.proofs.Common.{◌≡◌, ℕ, ◌+◌, ◌-◌, ◌*◌, ◌/◌, ◌%◌, ◌<◌, List, [], ◌∷◌, length, take, drop, get_or, Option, sym, ap, subst, ◌∙◌, arith}
 use Rattle.std.proofs.lemmas.List.{ext_get_or}
 use Rattle.std.proofs.lemmas.List.Edits.{get_or-between}
 use Rattle.octet_model.specs.Octets.{AreOctets}
+use Rattle.octet_model.proofs.Octets.{AreOctets-take, AreOctets-drop}
 use Rattle.cipher_model.proofs.PlainTexts.{cbc-only, ecb-only}
 use Rattle.key_model.specs.ExtentIv.{root_iv, extent_iv}
 use Rattle.packet_model.specs.FileKey.{IsFileKey}
@@ -10,7 +11,6 @@ use Rattle.packet_model.specs.Metadata.{FileHeader, Metadata, metadata, data_sta
 use Rattle.content_model.specs.declared.content.Content.{Content}
 use Rattle.content_model.specs.declared.content.Content.TheVariants.{Empty, Good, Bad}
 use Rattle.content_model.specs.Content.{Ring, extent_at, ArePlain, DecodesTo, IsGoodContent, IsContentBy, IsContent}
-use Rattle.content_model.proofs.Octets.{octet_at, part_octets}
 use Rattle.content_model.proofs.IvBlocks.{IsBlock-extent_iv}
 
 -- texts of whole extents are one when their extents are
@@ -28,15 +28,15 @@ same_extents count xs ys long_xs long_ys same = ext_get_or 0 xs ys (long_xs ∙ 
 -- a body has at most one plain text under a key
 pub one_plain : (key : List ℕ) (start count : ℕ) (body p q : List ℕ) → AreOctets body → ArePlain key start count body p → ArePlain key start count body q → p ≡ q
 one_plain key start count body p q fits a b =
-    let each : (octets : List ℕ) → AreOctets octets → (from n i : ℕ) → get_or (extent_at from octets n) i 0 < 256 =
-    λ octets h from n i. part_octets octets (from + 4096 * n) (from + 4096 * n + 4096 - (from + 4096 * n)) (λ j. octet_at octets j h) i in
+    let each : (octets : List ℕ) → AreOctets octets → (from n : ℕ) → AreOctets (extent_at from octets n) =
+    λ octets h from n. AreOctets-take (from + 4096 * n + 4096 - (from + 4096 * n)) (drop (from + 4096 * n) octets) (AreOctets-drop (from + 4096 * n) octets h) in
     same_extents count p q a.whole b.whole (λ n lt.
     cbc-only key (extent_iv (root_iv key) n) (extent_at start body n) (extent_at 0 p n) (extent_at 0 q n) (IsBlock-extent_iv (root_iv key) n)
     (each body fits start n) (each p a.octets 0 n) (each q b.octets 0 n) (a.extents n lt) (b.extents n lt))
 
 -- a wrapped key has at most one file key
 pub one_key : (kek wrapped k l : List ℕ) → AreOctets k → AreOctets l → IsFileKey kek wrapped k → IsFileKey kek wrapped l → k ≡ l
-one_key kek wrapped k l hk hl a b = ecb-only (take (length wrapped) kek) wrapped k l (λ i. octet_at k i hk) (λ i. octet_at l i hl) a b
+one_key kek wrapped k l hk hl a b = ecb-only (take (length wrapped) kek) wrapped k l hk hl a b
 
 pub one_decoding : (kek : List ℕ) (start : ℕ) (header : FileHeader) (body xs ys : List ℕ) → AreOctets body → DecodesTo kek start header body xs → DecodesTo kek start header body ys → xs ≡ ys
 one_decoding kek start header body xs ys fits a b =

@@ -15,7 +15,8 @@ use Rattle.packet_model.specs.declared.cause.TheConstants.{MAX_SIZE}
 use Rattle.packet_model.specs.declared.packet.Tag3.{Tag3}
 use Rattle.packet_model.specs.declared.packet.Tag11.{Tag11}
 use Rattle.packet_model.specs.declared.packet.Pair.{Pair}
-use Rattle.packet_model.specs.Spelling.{packet, tag3_octet, tag3_content, tag3, tag11_octet, tag11_content, tag11, console, IsTag3, IsTag11}
+use Rattle.packet_model.specs.declared.tag.TheConstants.{TAG3, TAG11}
+use Rattle.packet_model.specs.Packet.{packet, tag3_body, tag3, tag11_body, tag11, console, IsTag3, IsTag11}
 use Rattle.packet_model.specs.PacketSet.{◌>>=◌, WrappedKey, begins_pair, pairs_from, set_place, is_among, key_among, key_at, IsSet}
 use Rattle.packet_model.specs.Metadata.{FileHeader, NewHeader, size_in, mark_in, second_mark_in, marker_sum, version_in, flags_in, has_flag, hmac_flag, encrypted_flag, meta_size_in, packets_in, is_meta_size, header_fields, sized, fields_fault, unless, header_at, fixed_part, new_pair, new_metadata}
 use Rattle.packet_model.proofs.Found.{chosen}
@@ -94,20 +95,20 @@ pair_of new = record { tag3 = key_packet new; tag11 = signature_packet new }
 wrapped_long : (new : NewHeader) → IsNewHeader new → length new.key.wrapped ≡ 16
 wrapped_long new h = let parts = and_parts _ _ h.usable in eqb-true (length new.key.wrapped) 16 parts.1
 
-packet_long : (tag : ℕ) (content : List ℕ) → length content < 192 → length (packet tag content) ≡ 2 + length content
-packet_long tag content h = rw (lt-ltb (length content) 192 h) (omega arith)
+packet_long : (tag : ℕ) (body : List ℕ) → length body < 192 → length (packet tag body) ≡ 2 + length body
+packet_long tag body h = rw (lt-ltb (length body) 192 h) (omega arith)
 
 pair_long : (new : NewHeader) → IsNewHeader new → length (new_pair new) ≡ 55
 pair_long new h =
-    let key : length (tag3_content (key_packet new)) ≡ 29 = omega (arith, length-append new.salt (0x60 ∷ new.key.wrapped), h.salt, wrapped_long new h) in
-    let signature : length (tag11_content console (signature_packet new)) ≡ 22 = omega (arith, h.signature) in
+    let key : length (tag3_body (key_packet new)) ≡ 29 = omega (arith, length-append new.salt (0x60 ∷ new.key.wrapped), h.salt, wrapped_long new h) in
+    let signature : length (tag11_body console (signature_packet new)) ≡ 22 = omega (arith, h.signature) in
     omega (
       arith,
       length-append (tag3 (key_packet new)) (tag11 console (signature_packet new)),
       key,
       signature,
-      packet_long tag3_octet (tag3_content (key_packet new)) (omega (arith, key)),
-      packet_long tag11_octet (tag11_content console (signature_packet new)) (omega (arith, signature)),
+      packet_long TAG3 (tag3_body (key_packet new)) (omega (arith, key)),
+      packet_long TAG11 (tag11_body console (signature_packet new)) (omega (arith, signature)),
     )
 
 found : (ours : List (List ℕ)) (new : NewHeader) → IsNewHeader new → is_among new.key.signature ours ≡ true → key_among ours (pair_of new ∷ []) ≡ ok new.key

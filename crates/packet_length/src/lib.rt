@@ -9,4 +9,4 @@ mod tests;
 
 pub use frame::{no_packet_begins_another, read_packet};
 pub use length::{read_length, write_length};
-pub use packet_model::LengthFault;
+pub use packet_model::{LengthFault, MAX_LENGTH};

@@ -1,4 +1,6 @@
-use crate::{LengthFault, no_packet_begins_another, read_length, read_packet, write_length};
+use crate::{
+    LengthFault, MAX_LENGTH, no_packet_begins_another, read_length, read_packet, write_length,
+};
 
 // RFC 2440, 4.2.2.1 and 4.2.2.2: a length, its octets, and how many they are.
 const LENGTHS: [(u16, [u8; 2], usize); 5] = [
@@ -12,7 +14,7 @@ const LENGTHS: [(u16, [u8; 2], usize); 5] = [
 #[test]
 fn writes_and_reads_lengths(rt: HostRuntime) {
     for (len, octets, used) in LENGTHS {
-        if len < 8384 {
+        if len <= MAX_LENGTH {
             assert_eq!(rt; write_length(len), (octets, used), "length {len}");
         }
         assert_eq!(rt;
@@ -39,8 +41,8 @@ fn reads_the_frame_of_a_packet(rt: HostRuntime) {
     let octets = [0x8c, 2, 7, 8, 9];
     let found = read_packet(0x8c, &octets);
     assert!(rt; found.is_some());
-    if let Some((content, used)) = found {
-        assert_eq!(rt; content, [7, 8].as_slice());
+    if let Some((body, used)) = found {
+        assert_eq!(rt; body, [7, 8].as_slice());
         assert_eq!(rt; used, 4);
     }
     assert!(rt; read_packet(0xed, &octets).is_none());

@@ -4,10 +4,11 @@ use Rattle.std.proofs.lemmas.Bool.{cases_Bool, ltb-true, ltb-false, lt-ltb, le-l
 use Rattle.octet_model.specs.Octets.{AreOctets}
 use Rattle.packet_model.specs.declared.length.LengthFault.{LengthFault}
 use Rattle.packet_model.specs.declared.length.LengthFault.TheVariants.{First}
+use Rattle.packet_model.specs.declared.length.TheConstants.{MAX_LENGTH}
 use Rattle.packet_model.specs.Length.{length_octets, length_at, two_octets}
 use Rattle.packet_model.proofs.Found.{Found, chosen}
 
-again_from : (n : ℕ) (rest : List ℕ) → n < 8384 → (ltb n 192 ≡ true) ⊎ (ltb n 192 ≡ false) → length_at (length_octets n ++ rest) ≡ Ok (n, length (length_octets n))
+again_from : (n : ℕ) (rest : List ℕ) → n ≤ MAX_LENGTH → (ltb n 192 ≡ true) ⊎ (ltb n 192 ≡ false) → length_at (length_octets n ++ rest) ≡ Ok (n, length (length_octets n))
 again_from n rest h (inl e) = rw (e, e) refl
 again_from n rest h (inr e) =
     let least : 192 ≤ n = ltb-false n 192 e in
@@ -17,11 +18,11 @@ again_from n rest h (inr e) =
     rw (e, low, high, value) refl
 
 -- what was written is read again, whatever follows
-pub length_again : (n : ℕ) (rest : List ℕ) → n < 8384 → length_at (length_octets n ++ rest) ≡ Ok (n, length (length_octets n))
+pub length_again : (n : ℕ) (rest : List ℕ) → n ≤ MAX_LENGTH → length_at (length_octets n ++ rest) ≡ Ok (n, length (length_octets n))
 length_again n rest h = again_from n rest h (cases_Bool (ltb n 192))
 
 abbrev pub IsFront : List ℕ → ℕ → ℕ → Type 0
-IsFront octets n used = Found (length_octets n) octets used × (n < 8384)
+IsFront octets n used = Found (length_octets n) octets used × (n ≤ MAX_LENGTH)
 
 abbrev ok : ℕ × ℕ → Result (ℕ × ℕ) LengthFault
 ok x = Ok x

@@ -2,15 +2,16 @@
 use Rattle.std.proofs.Common.{◌≡◌, inl, inr, ℕ, zero, suc, ◌+◌, ◌≤◌, ◌<◌, Bool, true, false, cond, List, [], ◌∷◌, ◌++◌, length, drop, Option, Some, None, Result, Ok, Err, refl, sym, ap, subst, ◌∙◌, append_assoc, arith}
 use Rattle.std.proofs.lemmas.List.{drop_at, drop-drop, length-append, length-drop}
 use Rattle.octet_model.specs.Octets.{AreOctets}
+use Rattle.octet_model.proofs.Octets.{AreOctets-drop}
 use Rattle.packet_model.specs.declared.cause.BadCause.{BadCause}
 use Rattle.packet_model.specs.declared.cause.BadCause.TheVariants.{Tag1}
 use Rattle.packet_model.specs.declared.packet.Tag3.{Tag3}
 use Rattle.packet_model.specs.declared.packet.Tag11.{Tag11}
-use Rattle.packet_model.specs.Spelling.{Skipped, tag3, tag11, IsTag3, IsTag11}
-use Rattle.packet_model.specs.Reading.{tag3_at, tag11_at}
+use Rattle.packet_model.specs.Packet.{Skipped, tag3, tag11, IsTag3, IsTag11}
+use Rattle.packet_model.specs.FrontPacket.{tag3_at, tag11_at}
 use Rattle.packet_model.specs.declared.packet.Pair.{Pair}
 use Rattle.packet_model.specs.PacketSet.{◌>>=◌, begins_pair, begins_tag1, at_place, pair_at, pairs_at, IsSet}
-use Rattle.packet_model.proofs.Found.{Found, some, chosen, AreOctets-drop}
+use Rattle.packet_model.proofs.Found.{Found, some, chosen}
 use Rattle.packet_model.proofs.Packets.{tag3_again, tag3_takes, tag11_again, tag11_takes}
 
 abbrev pub ok : {A : Type 0} → A → Result A BadCause

@@ -2,10 +2,10 @@
 use Rattle.std.proofs.Common.{◌≡◌, ◌∙◌, ℕ, zero, suc, ◌+◌, ◌≤◌, true, false, cond, List, [], ◌∷◌, length, drop, Result, Ok, Err, refl, sym, ap, arith}
 use Rattle.std.proofs.lemmas.List.{length-drop}
 use Rattle.octet_model.specs.Octets.{AreOctets}
+use Rattle.octet_model.proofs.Octets.{AreOctets-drop}
 use Rattle.packet_model.specs.declared.cause.BadCause.{BadCause}
 use Rattle.packet_model.specs.declared.packet.Pair.{Pair}
 use Rattle.packet_model.specs.PacketSet.{◌>>=◌, begins_pair, pair_at, pairs_at, pairs_from}
-use Rattle.packet_model.proofs.Found.{AreOctets-drop}
 use Rattle.packet_model.proofs.Sets.{ok, pair_takes, none_begins, ends_here}
 
 abbrev then_others : ℕ → ℕ → List ℕ → Pair × ℕ → Result (List Pair) BadCause

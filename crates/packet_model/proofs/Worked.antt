@@ -6,8 +6,8 @@ use Rattle.packet_model.specs.declared.packet.Tag3.{Tag3}
 use Rattle.packet_model.specs.declared.packet.Tag11.{Tag11}
 use Rattle.lower_model.specs.declared.meta_place.MetaPlace.TheVariants.{Header, Attribute}
 use Rattle.packet_model.specs.Length.{length_octets, length_at}
-use Rattle.packet_model.specs.Spelling.{tag3, tag11, console}
-use Rattle.packet_model.specs.Reading.{content_at, tag3_at, tag11_at}
+use Rattle.packet_model.specs.Packet.{tag3, tag11, console}
+use Rattle.packet_model.specs.FrontPacket.{body_at, tag3_at, tag11_at}
 use Rattle.packet_model.specs.PacketSet.{WrappedKey, pair_at, pairs_at, key_at}
 use Rattle.packet_model.specs.Metadata.{NewHeader, FileHeader, fields_fault, header_at, new_metadata}
 
@@ -46,11 +46,11 @@ key_spelled : tag3 key_packet ≡ key_octets
 key_spelled = refl
 
 key_read : tag3_at (key_octets ++ 9 ∷ []) ≡ Some (key_packet, 31)
-unfolding tag3_at content_at
+unfolding tag3_at body_at
 key_read = refl
 
 key_cut : tag3_at (take 30 key_octets) ≡ None
-unfolding tag3_at content_at
+unfolding tag3_at body_at
 key_cut = refl
 
 abbrev signature : List ℕ
@@ -66,11 +66,11 @@ signature_spelled : tag11 console signature_packet ≡ signature_octets
 signature_spelled = refl
 
 signature_read : tag11_at (signature_octets ++ 9 ∷ []) ≡ Some (signature_packet, 24)
-unfolding tag11_at content_at
+unfolding tag11_at body_at
 signature_read = refl
 
 signature_cut : tag11_at (take 23 signature_octets) ≡ None
-unfolding tag11_at content_at
+unfolding tag11_at body_at
 signature_cut = refl
 
 abbrev key : WrappedKey
@@ -80,24 +80,24 @@ abbrev pair_octets : List ℕ
 pair_octets = key_octets ++ signature_octets
 
 key_of_pair : key_at (signature ∷ []) (pair_octets ++ 0 ∷ 0x8c ∷ []) ≡ Ok key
-unfolding key_at pairs_at pair_at tag3_at tag11_at content_at
+unfolding key_at pairs_at pair_at tag3_at tag11_at body_at
 key_of_pair = refl
 
 -- a fault of the set comes before any key is looked for
 tag1_behind : key_at (signature ∷ []) (pair_octets ++ 1 ∷ []) ≡ Err (causes.Tag1 81)
-unfolding key_at pairs_at pair_at tag3_at tag11_at content_at
+unfolding key_at pairs_at pair_at tag3_at tag11_at body_at
 tag1_behind = refl
 
 cut_behind : key_at (signature ∷ []) (pair_octets ++ 0x8c ∷ []) ≡ Err (causes.Packet 81)
-unfolding key_at pairs_at pair_at tag3_at tag11_at content_at
+unfolding key_at pairs_at pair_at tag3_at tag11_at body_at
 cut_behind = refl
 
 cut_signature : key_at (signature ∷ []) (take 54 pair_octets) ≡ Err (causes.Packet 57)
-unfolding key_at pairs_at pair_at tag3_at tag11_at content_at
+unfolding key_at pairs_at pair_at tag3_at tag11_at body_at
 cut_signature = refl
 
 another_key : key_at (salt ∷ []) pair_octets ≡ Err (causes.WrongKey signature salt)
-unfolding key_at pairs_at pair_at tag3_at tag11_at content_at
+unfolding key_at pairs_at pair_at tag3_at tag11_at body_at
 another_key = refl
 
 -- a header of one octet, and its first 26 octets
@@ -114,7 +114,7 @@ abbrev header : FileHeader
 header = record { size = 1; mark = 0x11223344; flags = 10; meta_size = 8192; key = key }
 
 header_read : header_at Header (signature ∷ []) (first_octets ++ pair_octets) ≡ Ok header
-unfolding header_at fields_fault key_at pairs_at pair_at tag3_at tag11_at content_at
+unfolding header_at fields_fault key_at pairs_at pair_at tag3_at tag11_at body_at
 header_read = refl
 
 no_packet : header_at Header (signature ∷ []) first_octets ≡ Err causes.NoPacket

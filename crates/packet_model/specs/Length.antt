@@ -1,9 +1,9 @@
--- The length of a packet's content: one octet (RFC 2440, 4.2.2.1) or two (4.2.2.2).
+-- The length of a packet's body: one octet (RFC 2440, 4.2.2.1) or two (4.2.2.2).
 use Rattle.std.specs.Prelude.{ℕ, ◌+◌, ◌-◌, ◌*◌, ◌/◌, ◌%◌, List, [], ◌∷◌, Result, Ok, Err, nat_lt, if◌then◌else◌}
 use Rattle.packet_model.specs.declared.length.LengthFault.{LengthFault}
 use Rattle.packet_model.specs.declared.length.LengthFault.TheVariants.{Cut, First}
 
--- the octets of a length below 8,384
+-- the octets of a length of at most MAX_LENGTH
 abbrev pub length_octets : ℕ → List ℕ
 length_octets n = if nat_lt n 192 then n ∷ [] else (192 + (n - 192) / 256) ∷ (n - 192) % 256 ∷ []
 

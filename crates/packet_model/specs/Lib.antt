@@ -1,6 +1,6 @@
 pub mod Length
-pub mod Spelling
-pub mod Reading
+pub mod Packet
+pub mod FrontPacket
 pub mod PacketSet
 pub mod Metadata
 pub mod FileKey

@@ -6,7 +6,7 @@ use Rattle.packet_model.specs.declared.cause.BadCause.TheVariants.{Short, Marker
 use Rattle.packet_model.specs.declared.cause.TheConstants.{MAX_SIZE}
 use Rattle.lower_model.specs.declared.meta_place.MetaPlace.{MetaPlace}
 use Rattle.lower_model.specs.declared.meta_place.MetaPlace.TheVariants.{Header, Attribute}
-use Rattle.packet_model.specs.Spelling.{tag3, tag11, console}
+use Rattle.packet_model.specs.Packet.{tag3, tag11, console}
 use Rattle.packet_model.specs.PacketSet.{◌>>=◌, WrappedKey, key_at}
 
 -- ---- the fields before the packets

@@ -5,8 +5,9 @@ use Rattle.std.specs.Str.{bytes_eq}
 use Rattle.packet_model.specs.declared.cause.BadCause.{BadCause}
 use Rattle.packet_model.specs.declared.cause.BadCause.TheVariants.{NoPacket, Tag1, Packet, WrongKey, Cipher}
 use Rattle.packet_model.specs.declared.packet.Pair.{Pair}
-use Rattle.packet_model.specs.Spelling.{tag3_octet, tag11_octet, tag3, tag11, IsTag3, IsTag11, Skipped}
-use Rattle.packet_model.specs.Reading.{tag3_at, tag11_at}
+use Rattle.packet_model.specs.declared.tag.TheConstants.{TAG3, TAG11}
+use Rattle.packet_model.specs.Packet.{tag3, tag11, IsTag3, IsTag11, Skipped}
+use Rattle.packet_model.specs.FrontPacket.{tag3_at, tag11_at}
 
 infixl 10 ◌>>=◌
 abbrev pub ◌>>=◌ : {A B : Type 0} → Result A BadCause → (A → Result B BadCause) → Result B BadCause
@@ -20,7 +21,7 @@ tag1_octet = 0x01
 -- whether a pair, or a packet in its place, begins here; else the set ends here
 abbrev pub begins_pair : List ℕ → Bool
 begins_pair [] = false
-begins_pair (first ∷ rest) = (first == tag3_octet) || (first == tag11_octet) || (first == tag1_octet)
+begins_pair (first ∷ rest) = (first == TAG3) || (first == TAG11) || (first == tag1_octet)
 
 abbrev pub begins_tag1 : List ℕ → Bool
 begins_tag1 [] = false

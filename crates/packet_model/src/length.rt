@@ -1,5 +1,8 @@
 use thiserror::Error;
 
+/// The greatest length of a packet body that two octets can say (RFC 2440, 4.2.2.2).
+pub const MAX_LENGTH: u16 = 8_383;
+
 /// Why no packet length stands at the front of some octets.
 #[derive(Clone, Copy, Debug, PartialEq, Eq, Error)]
 pub enum LengthFault {

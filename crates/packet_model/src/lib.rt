@@ -5,8 +5,10 @@
 mod cause;
 mod length;
 mod packet;
+mod tag;
 
 pub use cause::{BadCause, MAX_SIZE};
-pub use length::LengthFault;
+pub use length::{LengthFault, MAX_LENGTH};
 pub use lower_model::MetaPlace;
-pub use packet::{PacketError, Pair, Tag3, Tag11};
+pub use packet::{MAX_WRAPPED, PacketError, Pair, Tag3, Tag11};
+pub use tag::{TAG3, TAG11};

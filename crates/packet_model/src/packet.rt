@@ -5,7 +5,10 @@ use lower_model::Items;
 use std::alloc::AllocError;
 use thiserror::Error;
 
-/// The content of a tag 3 packet (RFC 2440, 5.3): a wrapped file key.
+/// The most octets of a wrapped file key.
+pub const MAX_WRAPPED: usize = 512;
+
+/// The body of a tag 3 packet (RFC 2440, 5.3): a wrapped file key.
 #[derive(Drop)]
 pub struct Tag3 {
     /// The cipher of the file (RFC 2440, 9.2): 7, 8 and 9 are AES-128, AES-192 and AES-256.
@@ -14,11 +17,11 @@ pub struct Tag3 {
     pub salt: [u8; 8],
     /// The coded count of the iterations.
     pub count: u8,
-    /// The wrapped file key, at most 512 octets.
+    /// The wrapped file key, at most [`MAX_WRAPPED`] octets.
     pub wrapped: Items<u8>,
 }
 
-/// The content of a tag 11 packet (cf. RFC 2440, 5.9), without the fields that are skipped.
+/// The body of a tag 11 packet (cf. RFC 2440, 5.9), without the fields that are skipped.
 #[derive(Clone, Copy, Debug, PartialEq, Eq)]
 pub struct Tag11 {
     /// The signature of the key that wraps the file key.

@@ -1,7 +1,7 @@
 // One pair of packets.
 ghost use Rattle.std.specs.Prelude.{◌≡◌, ◌<◌, ◌≤◌, ◌+◌, ◌^◌, length, IfOk};
 ghost use Rattle.packet_model.specs.PacketSet.{pair_at, at_place, begins_pair as pair_test, begins_tag1 as tag1_test};
-ghost use Rattle.packet_model.specs.Reading.{tag3_at, tag11_at};
+ghost use Rattle.packet_model.specs.FrontPacket.{tag3_at, tag11_at};
 ghost use Rattle.packet_set.specs.Gives.{Gives};
 
 use crate::error::SetError;

@@ -1,6 +1,7 @@
-ghost use Rattle.std.specs.Prelude.{◌≡◌, ℕ, List};
+ghost use Rattle.std.specs.Prelude.{◌≡◌, ℕ, List, length, Some, codes};
 
 use crate::secret::Secret;
+use std::fmt::{self, Debug, Formatter, Write};
 use std::marker::Model;
 
 /// A file encryption key: the AES-128 key of one file's data. It has to be spent. Contracts see its
@@ -27,7 +28,8 @@ impl Fek {
 
     /// The key's octets.
     pub fn octets(&self) -> &[u8; 16]
-        ensures { result.now ≡ self.now }
+        ensures value { result.now ≡ self.now }
+        ensures length { length result.now ≡ 16 }
     {
         self.secret.octets()
     }
@@ -48,6 +50,15 @@ impl Fek {
     }
 }
 
+// The name alone.
+impl Debug for Fek {
+    ghost debug_output = { λ _. Some (codes "Fek") };
+
+    fn fmt<W: Write>(&self, f: &mut Formatter<W>) -> fmt::Result {
+        f.write_str("Fek")
+    }
+}
+
 /// A lent file key, made by [`Fek::loan`]. It has to be spent too. Contracts see its octets.
 pub struct FekLoan {
     secret: Secret<16>,
@@ -62,7 +73,8 @@ impl Model for FekLoan {
 impl FekLoan {
     /// The octets of the key that was lent.
     pub fn octets(&self) -> &[u8; 16]
-        ensures { result.now ≡ self.now }
+        ensures value { result.now ≡ self.now }
+        ensures length { length result.now ≡ 16 }
     {
         self.secret.octets()
     }
@@ -71,5 +83,14 @@ impl FekLoan {
     pub fn spend(self) {
         let FekLoan { mut secret } = self;
         secret.wipe();
+    }
+}
+
+// The name alone.
+impl Debug for FekLoan {
+    ghost debug_output = { λ _. Some (codes "FekLoan") };
+
+    fn fmt<W: Write>(&self, f: &mut Formatter<W>) -> fmt::Result {
+        f.write_str("FekLoan")
     }
 }

@@ -1,7 +1,8 @@
-ghost use Rattle.std.specs.Prelude.{◌≡◌};
+ghost use Rattle.std.specs.Prelude.{◌≡◌, length, Some, codes};
 
 use crate::secret::Secret;
 use crate::wrapping_key::Kek;
+use std::fmt::{self, Debug, Formatter, Write};
 use std::marker::Model;
 
 /// A file name encryption key: the key of a mount's names, with its signature. It has to be spent.
@@ -32,14 +33,16 @@ impl Fnek {
 
     /// The key's octets.
     pub fn octets(&self) -> &[u8; 64]
-        ensures { result.now ≡ self.now.octets }
+        ensures value { result.now ≡ self.now.octets }
+        ensures length { length result.now ≡ 64 }
     {
         self.key.octets()
     }
 
     /// The key's signature.
     pub fn signature(&self) -> [u8; 8]
-        ensures { result ≡ self.now.signature }
+        ensures value { result ≡ self.now.signature }
+        ensures length { length result ≡ 8 }
     {
         *self.signature.octets()
     }
@@ -49,5 +52,14 @@ impl Fnek {
         let Fnek { key, mut signature } = self;
         key.spend();
         signature.wipe();
+    }
+}
+
+// The name alone.
+impl Debug for Fnek {
+    ghost debug_output = { λ _. Some (codes "Fnek") };
+
+    fn fmt<W: Write>(&self, f: &mut Formatter<W>) -> fmt::Result {
+        f.write_str("Fnek")
     }
 }

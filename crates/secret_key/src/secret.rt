@@ -1,4 +1,4 @@
-ghost use Rattle.std.specs.Prelude.{◌≡◌, ℕ, List, replicate};
+ghost use Rattle.std.specs.Prelude.{◌≡◌, ℕ, List, length, replicate};
 
 use std::marker::Model;
 
@@ -29,7 +29,8 @@ impl<const N: usize> Secret<N> {
     }
 
     pub fn octets(&self) -> &[u8; N]
-        ensures { result.now ≡ self.now }
+        ensures value { result.now ≡ self.now }
+        ensures length { length result.now ≡ N }
     {
         &self.octets
     }

@@ -1,10 +1,11 @@
-ghost use Rattle.std.specs.Prelude.{◌≡◌, ℕ, List, EachIndex, slice_index};
+ghost use Rattle.std.specs.Prelude.{◌≡◌, ℕ, List, EachIndex, slice_index, Some, codes};
 ghost use Rattle.key_model.specs.FileKey.{aes128_words, file_key, file_mark, stream_word};
 
 use crate::file_key::Fek;
 use rand_chacha::ChaCha20Rng;
 use rand_core::SeedableRng;
 use rand_core::utils::NextWord;
+use std::fmt::{self, Debug, Formatter, Write};
 use std::marker::Model;
 
 const KEY_WORDS: usize = 4;
@@ -62,5 +63,14 @@ impl KeySource {
             *word = stream.next_word();
         }
         words
+    }
+}
+
+// The name alone.
+impl Debug for KeySource {
+    ghost debug_output = { λ _. Some (codes "KeySource") };
+
+    fn fmt<W: Write>(&self, f: &mut Formatter<W>) -> fmt::Result {
+        f.write_str("KeySource")
     }
 }

@@ -1,4 +1,5 @@
 use super::*;
+use std::test::Fail;
 
 // The random octets, the node, and the file key and mark that another implementation of ChaCha20 gives.
 const DRAWN: [([u8; 32], u32, u128, u32); 4] = [
@@ -46,4 +47,20 @@ fn signs_a_name_key(rt: HostRuntime) {
     assert_eq!(rt; *fnek.octets(), [9; 64]);
     assert_eq!(rt; fnek.signature(), [1, 2, 3, 4, 5, 6, 7, 8]);
     fnek.spend();
+}
+
+#[test]
+fn prints_names_alone(rt: HostRuntime) -> Result<(), Fail> {
+    let fek = Fek::new([7; 16]);
+    let loan = fek.loan();
+    let fnek = Fnek::new(Kek::new([9; 64]), [1; 8]);
+    let kek = Kek::new([9; 64]);
+    let source = KeySource::new([5; 32]);
+    let text = format!(in rt.alloc(); "{fek:?} {loan:?} {kek:?} {fnek:?} {source:?}");
+    fek.spend();
+    loan.spend();
+    kek.spend();
+    fnek.spend();
+    assert_eq!(rt; text?.as_str(), "Fek FekLoan Kek Fnek KeySource");
+    Ok(())
 }

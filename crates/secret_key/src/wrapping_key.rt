@@ -1,6 +1,7 @@
-ghost use Rattle.std.specs.Prelude.{◌≡◌, ℕ, List};
+ghost use Rattle.std.specs.Prelude.{◌≡◌, ℕ, List, length, Some, codes};
 
 use crate::secret::Secret;
+use std::fmt::{self, Debug, Formatter, Write};
 use std::marker::Model;
 
 /// A key-encryption key, as a passphrase gives it. It has to be spent. Contracts see its octets.
@@ -26,7 +27,8 @@ impl Kek {
 
     /// The key's octets.
     pub fn octets(&self) -> &[u8; 64]
-        ensures { result.now ≡ self.now }
+        ensures value { result.now ≡ self.now }
+        ensures length { length result.now ≡ 64 }
     {
         self.secret.octets()
     }
@@ -35,5 +37,14 @@ impl Kek {
     pub fn spend(self) {
         let Kek { mut secret } = self;
         secret.wipe();
+    }
+}
+
+// The name alone.
+impl Debug for Kek {
+    ghost debug_output = { λ _. Some (codes "Kek") };
+
+    fn fmt<W: Write>(&self, f: &mut Formatter<W>) -> fmt::Result {
+        f.write_str("Kek")
     }
 }

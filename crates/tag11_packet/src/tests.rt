@@ -52,13 +52,13 @@ fn skips_fields(rt: HostRuntime) {
 fn refuses_other_octets(rt: HostRuntime) {
     assert_eq!(rt; read_tag11(&PACKET[..23]), Err(PacketError::Bad));
     assert_eq!(rt; read_tag11(&PACKET[1..]), Err(PacketError::Bad));
-    for place in [0, 1, 3] {
+    for offset in [0, 1, 3] {
         let mut changed = PACKET;
-        changed[place] = 0x17;
+        changed[offset] = 0x17;
         assert_eq!(rt;
             read_tag11(&changed),
             Err(PacketError::Bad),
-            "another octet at {place}"
+            "another octet at {offset}"
         );
     }
 }

@@ -1,11 +1,11 @@
 //! Tag 3 packets (RFC 2440, 5.3): a wrapped file key.
 #![tactic(auto)]
 
-mod reading;
+mod reader;
 #[cfg(test)]
 mod tests;
-mod writing;
+mod writer;
 
-pub use packet_model::{PacketError, Tag3};
-pub use reading::read_tag3;
-pub use writing::write_tag3;
+pub use packet_model::{MAX_WRAPPED, PacketError, Tag3};
+pub use reader::read_tag3;
+pub use writer::write_tag3;

@@ -1,4 +1,4 @@
-use crate::{PacketError, Tag3, read_tag3, write_tag3};
+use crate::{MAX_WRAPPED, PacketError, Tag3, read_tag3, write_tag3};
 use lower_model::Items;
 use std::test::Fail;
 
@@ -22,7 +22,7 @@ fn writes_a_packet(rt: HostRuntime) -> Result<(), Fail> {
         count: 0x60,
         wrapped: Items::from_slice(rt.alloc(), &WRAPPED)?,
     };
-    if packet.wrapped.len() <= 512 {
+    if packet.wrapped.len() <= MAX_WRAPPED {
         let octets = write_tag3(rt.alloc(), &packet)?;
         assert_eq!(rt; octets.as_slice(), PACKET.as_slice());
     }
@@ -51,9 +51,9 @@ fn is_bad(rt: &HostRuntime, octets: &[u8]) -> bool {
 fn refuses_other_octets(rt: HostRuntime) {
     assert!(rt; is_bad(&rt, &PACKET[..30]), "cut");
     assert!(rt; is_bad(&rt, &PACKET[1..]), "no tag");
-    for place in [0, 1, 2, 4, 5] {
+    for offset in [0, 1, 2, 4, 5] {
         let mut changed = PACKET;
-        changed[place] = 0xff;
-        assert!(rt; is_bad(&rt, &changed), "another octet at {place}");
+        changed[offset] = 0xff;
+        assert!(rt; is_bad(&rt, &changed), "another octet at {offset}");
     }
 }

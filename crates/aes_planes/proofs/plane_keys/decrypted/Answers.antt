@@ -22,8 +22,8 @@ rounds-preserved c k long ks m hm =
     (c.rounds.invariant k long ks m hm)
     (c.unround-s.ensures m hm ∙ ap (λ (x : List ℕ). inv_mix_columns (add_round_key (inv_sub_bytes (inv_shift_rows s)) x)) (ks r below _ m hm ∙ round_key-16 k r long))
 
-pub returns : goal.returns
-returns c k long ks m hm =
+pub returns-clause-value : goal.returns-clause-value
+returns-clause-value c k long ks m hm =
     let ws : List ℕ = key_schedule 4 k in
     let s : List ℕ = block_in c.rounds.s m in
     unrounds_none ws s (block_in c.last_unround.result m) c.rounds.r (omega arith)

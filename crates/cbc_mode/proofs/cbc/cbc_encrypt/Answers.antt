@@ -2,6 +2,7 @@ use Rattle.std.proofs.Common.{◌≡◌, ◌/◌, List, ℕ, length, ap, sym, su
 use Rattle.std.specs.Int.{w128, to_le_bytes}
 use Rattle.cipher_model.specs.Aes.{encrypted, xor_blocks}
 use Rattle.cipher_model.specs.Blocks.{block_at}
+use Rattle.cipher_model.proofs.States.{IsBlock-from_each}
 use Rattle.cipher_model.proofs.BlockNumbers.{octets-from, octets-xor}
 use Rattle.cbc_mode.specs.Steps.{PutsBlock}
 use Rattle.cbc_mode.proofs.CbcSteps.{IsEncryptedTo, encrypted_none, encrypted_more, encrypted_all}
@@ -10,7 +11,7 @@ use Rattle.cbc_mode.proofs.cbc.cbc_encrypt.Goals as goal
 pub chain-init : goal.chain-init
 chain-init c =
     let first : to_le_bytes w128 c.from_le_bytes-last.result ≡ c.args.iv.now =
-    octets-from c.args.iv.now c.from_le_bytes-last.result (record { long = c.told-iv; bytes = c.fits-iv }) c.from_le_bytes-last.ensures in
+    octets-from c.args.iv.now c.from_le_bytes-last.result (IsBlock-from_each c.args.iv.now c.told-iv c.fits-iv) c.from_le_bytes-last.ensures in
     subst (λ (b : List ℕ). IsEncryptedTo c.args.keys.now c.args.iv.now c.args.octets.now c.args.octets.now b 0) (sym first)
     (encrypted_none c.args.keys.now c.args.iv.now c.args.octets.now)
 

@@ -3,7 +3,7 @@ use Rattle.std.specs.Prelude.{IfOk}
 use Rattle.std.specs.Option.{option_copied}
 use Rattle.std.proofs.lemmas.Result.{IfOk-weaker}
 use Rattle.packet_model.specs.Metadata.{Metadata, metadata}
-use Rattle.packet_model.proofs.Found.{AreOctets-from_each}
+use Rattle.octet_model.proofs.Octets.{AreOctets-from_each}
 use Rattle.xattr_meta.specs.declared.meta.FileMeta.{FileMeta}
 use Rattle.xattr_meta.specs.Gives.{GivesFile}
 use Rattle.content_model.specs.declared.content.Content.{Content}

@@ -19,7 +19,7 @@ returns c = λ kek header is.
       key = key;
       plain = first.plain;
       key_octets = first.key_octets;
-      unwrapped = subst (λ (k : List ℕ). IsFileKey kek header.key.wrapped k) (sym c.octets.ensures) is.fek;
+      unwrapped = subst (λ (k : List ℕ). IsFileKey kek header.key.wrapped k) (sym c.octets.ensures.value) is.fek;
       extents =
           subst (λ (at : ℕ). ArePlain key at (extent_count header.size) body first.plain) is.start
           (subst (λ (size : ℕ). ArePlain key start (extent_count size) body first.plain) is.size are);

@@ -1,5 +1,5 @@
 use Rattle.std.proofs.Common.{arith}
-use Rattle.packet_model.proofs.Found.{AreOctets-from_each}
+use Rattle.octet_model.proofs.Octets.{AreOctets-from_each}
 use Rattle.extent_file.proofs.extents.are_octets.Goals as goal
 
 pub returns : goal.returns

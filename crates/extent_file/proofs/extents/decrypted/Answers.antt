@@ -1,7 +1,7 @@
 use Rattle.std.proofs.Common.{◌≡◌, ◌/◌, List, ℕ, length, take, drop, ◌++◌, subst, ap, ◌∙◌, arith}
 use Rattle.std.proofs.lemmas.List.{take_at}
 use Rattle.packet_model.specs.Metadata.{extent_count}
-use Rattle.packet_model.proofs.Found.{AreOctets-from_each}
+use Rattle.octet_model.proofs.Octets.{AreOctets-from_each}
 use Rattle.content_model.specs.Content.{ArePlain}
 use Rattle.extent_file.proofs.extents.decrypted.Goals as goal
 

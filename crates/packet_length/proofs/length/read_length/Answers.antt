@@ -1,9 +1,10 @@
-use Rattle.std.proofs.Common.{◌≡◌, ◌<◌, ◌≤◌, ℕ, ◌++◌, List, length, drop, Result, Ok, Err, sym, ap, ◌∙◌, arith}
+use Rattle.std.proofs.Common.{◌≡◌, ◌≤◌, ℕ, ◌++◌, List, length, drop, Result, Ok, Err, sym, ap, ◌∙◌, arith}
 use Rattle.std.specs.Prelude.{IfOk}
 use Rattle.octet_model.specs.Octets.{AreOctets}
 use Rattle.packet_model.specs.declared.length.LengthFault.{LengthFault}
+use Rattle.packet_model.specs.declared.length.TheConstants.{MAX_LENGTH}
 use Rattle.packet_model.specs.Length.{length_at, length_octets}
-use Rattle.packet_model.proofs.Found.{AreOctets-from_each}
+use Rattle.octet_model.proofs.Octets.{AreOctets-from_each}
 use Rattle.packet_model.proofs.Lengths.{length_takes, length_again, length-octets}
 use Rattle.packet_length.proofs.length.read_length.Goals as goal
 
@@ -11,7 +12,7 @@ found : (octets : List ℕ) (r : Result (ℕ × ℕ) LengthFault) → AreOctets 
 found octets (Ok x) fits is = (length_takes octets x fits (sym is)).0.parts
 found octets (Err fault) fits is = tt
 
-small : (octets : List ℕ) (r : Result (ℕ × ℕ) LengthFault) → AreOctets octets → r ≡ length_at octets → IfOk r (λ x. (x.0 < 8384) × (x.1 ≡ length (length_octets x.0)) × (x.1 ≤ 2))
+small : (octets : List ℕ) (r : Result (ℕ × ℕ) LengthFault) → AreOctets octets → r ≡ length_at octets → IfOk r (λ x. (x.0 ≤ MAX_LENGTH) × (x.1 ≡ length (length_octets x.0)) × (x.1 ≤ 2))
 small octets (Ok x) fits is = let h = length_takes octets x fits (sym is) in (h.1, h.0.long, omega (arith, h.0.long, length-octets x.0))
 small octets (Err fault) fits is = tt
 

@@ -2,7 +2,7 @@ use Rattle.std.proofs.Common.{◌≡◌, ◌∷◌, [], take, drop, length, ◌-
 use Rattle.std.proofs.lemmas.List.{take_rest}
 use Rattle.std.proofs.lemmas.Result.{err_from_is_err_and}
 use Rattle.packet_model.specs.PacketSet.{begins_pair, key_at, key_if_found, usable_key}
-use Rattle.packet_model.proofs.Found.{AreOctets-from_each}
+use Rattle.octet_model.proofs.Octets.{AreOctets-from_each}
 use Rattle.packet_set.specs.Gives.{GivesAs, wrapped_key}
 use Rattle.packet_set.proofs.Keys.{first_fails, HasFirst, others_fail, found_is}
 use Rattle.packet_set.proofs.find.wrapped_key_of.Goals as goal

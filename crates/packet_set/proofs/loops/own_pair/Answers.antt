@@ -2,7 +2,7 @@ use Rattle.std.proofs.Common.{◌≡◌, ℕ, ◌+◌, ◌-◌, ◌∷◌, [], L
 use Rattle.std.proofs.lemmas.List.{take_rest, length-drop}
 use Rattle.std.proofs.lemmas.Result.{err_from_is_err_and}
 use Rattle.octet_model.specs.Octets.{AreOctets}
-use Rattle.packet_model.proofs.Found.{AreOctets-drop, AreOctets-from_each}
+use Rattle.octet_model.proofs.Octets.{AreOctets-drop, AreOctets-from_each}
 use Rattle.packet_model.specs.PacketSet.{pairs_from}
 use Rattle.packet_set.specs.Gives.{kept_behind}
 use Rattle.packet_set.proofs.Loop.{goes_on, stops, is_done, kept_alone}

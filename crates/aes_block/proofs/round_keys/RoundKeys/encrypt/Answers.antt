@@ -1,11 +1,12 @@
 use Rattle.std.proofs.Common.{◌≡◌, List, ℕ, ap, sym, subst, ◌∙◌}
 use Rattle.cipher_model.specs.Aes.{IsBlock, decrypted, encrypted}
 use Rattle.cipher_model.proofs.BlockNumbers.{IsBlock-octets, octets-from}
+use Rattle.cipher_model.proofs.States.{IsBlock-from_each}
 use Rattle.cipher_model.proofs.InverseCipher.{decrypted-encrypted}
 use Rattle.aes_block.proofs.round_keys.RoundKeys.encrypt.Goals as goal
 
 is_block : (c : goal.After-to_le_bytes) → IsBlock c.args.block.now
-is_block c = record { long = c.told-block; bytes = c.fits-block }
+is_block c = IsBlock-from_each c.args.block.now c.told-block c.fits-block
 
 is_encrypted : (c : goal.After-to_le_bytes) → c.to_le_bytes.result ≡ encrypted c.args.self.now c.args.block.now
 is_encrypted c =
