@@ -1,4 +1,4 @@
--- The two laws: what is read is a lower tree that is spelled so, and what is spelled so is read.
+-- Entries: what is read is spelled so, and what is spelled so is read.
 use Rattle.std.proofs.Common.{◌≡◌, ℕ, zero, suc, ◌+◌, ◌<◌, ◌≤◌, true, List, [], ◌∷◌, ◌++◌, length, take, Option, Some, None, Ok, refl, sym, ap, subst, ◌∙◌, append_assoc, arith, eq-eqb}
 use Rattle.std.specs.Prelude.{IfSome, IsTrue, slice_get}
 use Rattle.std.specs.Int.{w16, to_be_bytes}
@@ -11,13 +11,15 @@ use Rattle.lower_model.specs.declared.node.OpenDir.{OpenDir}
 use Rattle.octet_model.specs.Octets.{AreOctets}
 use Rattle.lower_model.specs.Name.{is_name}
 use Rattle.lower_model.specs.LowerTree.{comes_before, level_in, opened, path_behind, HoldsOctets, IsEntry, AreEntries}
-use Rattle.image_model.specs.Spelling.{kind_code, content, entry, entries}
-use Rattle.image_model.specs.Reading.{◌>>=◌, level_at, kind_at, name_at, content_at, Entry, entry_in, entry_at, entries_at}
-use Rattle.image_model.proofs.Fields.{bind_ok, moved, Takes, Takes-then, level_takes, level_again, kind_takes, kind_again, name_takes, name_again, content_takes, content_again}
+use Rattle.image_model.specs.ImageText.{kind_code, file_octets, entry, entries}
+use Rattle.image_model.specs.ImageReading.{level_at, kind_at, name_at, file_octets_at, Entry, entry_in, entry_at, entries_at}
+use Rattle.answer_model.specs.Answer.{◌>>=◌}
+use Rattle.answer_model.proofs.Binds.{bind_ok}
+use Rattle.image_model.proofs.Fields.{moved, Takes, Takes-then, level_takes, level_again, kind_takes, kind_again, name_takes, name_again, file_octets_take, file_octets_again}
 
 -- what stands behind the level of an entry
 abbrev tail : LowerNode → List ℕ
-tail n = kind_code n.kind ∷ (length n.name ∷ (n.name ++ content n.kind n.attribute n.body))
+tail n = kind_code n.kind ∷ (length n.name ∷ (n.name ++ file_octets n.kind n.attribute n.body))
 
 -- an entry of this directory, at this level
 record IsBelow (level : ℕ) (parent : OpenDir) (r : Entry) : Type 0 where
@@ -29,14 +31,14 @@ record IsBelow (level : ℕ) (parent : OpenDir) (r : Entry) : Type 0 where
 
 below_takes : (level : ℕ) (parent : OpenDir) (octets : List ℕ) (x : Entry × List ℕ) → AreOctets octets → entry_in level (Some parent) octets ≡ Ok x → Takes octets (tail x.0.node) x.1 × IsBelow level parent x.0
 below_takes level parent octets x fits e =
-    let a = bind_ok (kind_at octets) (λ kind. name_at parent.last kind.1 >>= λ name. content_at kind.0 name.1 >>= λ c. Ok (record { node = record { parent = parent.node; kind = kind.0; name = name.0; attribute = c.0.attribute; body = c.0.body }; level = level }, c.1)) x e in
-    let b = bind_ok (name_at parent.last a.0.1) (λ name. content_at a.0.0 name.1 >>= λ c. Ok (record { node = record { parent = parent.node; kind = a.0.0; name = name.0; attribute = c.0.attribute; body = c.0.body }; level = level }, c.1)) x a.2 in
-    let d = bind_ok (content_at a.0.0 b.0.1) (λ c. Ok (record { node = record { parent = parent.node; kind = a.0.0; name = b.0.0; attribute = c.0.attribute; body = c.0.body }; level = level }, c.1)) x b.2 in
+    let a = bind_ok (kind_at octets) (λ kind. name_at parent.last kind.1 >>= λ name. file_octets_at kind.0 name.1 >>= λ c. Ok (record { node = record { parent = parent.node; kind = kind.0; name = name.0; attribute = c.0.attribute; body = c.0.body }; level = level }, c.1)) x e in
+    let b = bind_ok (name_at parent.last a.0.1) (λ name. file_octets_at a.0.0 name.1 >>= λ c. Ok (record { node = record { parent = parent.node; kind = a.0.0; name = name.0; attribute = c.0.attribute; body = c.0.body }; level = level }, c.1)) x a.2 in
+    let d = bind_ok (file_octets_at a.0.0 b.0.1) (λ c. Ok (record { node = record { parent = parent.node; kind = a.0.0; name = b.0.0; attribute = c.0.attribute; body = c.0.body }; level = level }, c.1)) x b.2 in
     let t = kind_takes octets a.0.0 a.0.1 fits a.1 in
     let u = name_takes parent.last a.0.1 b.0.0 b.0.1 t.rest_fits b.1 in
-    let v = content_takes a.0.0 b.0.1 d.0.0 d.0.1 u.0.rest_fits d.1 in
-    let uv = Takes-then a.0.1 (length b.0.0 ∷ b.0.0) b.0.1 (content a.0.0 d.0.0.attribute d.0.0.body) d.0.1 u.0 v.0 in
-    let tuv = Takes-then octets (kind_code a.0.0 ∷ []) a.0.1 (length b.0.0 ∷ (b.0.0 ++ content a.0.0 d.0.0.attribute d.0.0.body)) d.0.1 t uv in
+    let v = file_octets_take a.0.0 b.0.1 d.0.0 d.0.1 u.0.rest_fits d.1 in
+    let uv = Takes-then a.0.1 (length b.0.0 ∷ b.0.0) b.0.1 (file_octets a.0.0 d.0.0.attribute d.0.0.body) d.0.1 u.0 v.0 in
+    let tuv = Takes-then octets (kind_code a.0.0 ∷ []) a.0.1 (length b.0.0 ∷ (b.0.0 ++ file_octets a.0.0 d.0.0.attribute d.0.0.body)) d.0.1 t uv in
     let made : Entry × List ℕ = (record { node = record { parent = parent.node; kind = a.0.0; name = b.0.0; attribute = d.0.0.attribute; body = d.0.0.body }; level = level }, d.0.1) in
     moved (λ (y : Entry × List ℕ). Takes octets (tail y.0.node) y.1 × IsBelow level parent y.0) made x d.2
     (tuv, record { same_level = refl; same_parent = refl; after = u.2; name = u.1; octets = v.1 })
@@ -143,8 +145,8 @@ entries_take (suc count) path number octets x r fits e =
 below_again : (level : ℕ) (d : OpenDir) (n : LowerNode) (rest : List ℕ) → d.node ≡ n.parent → comes_before d.last n.name ≡ true → is_name n.name ≡ true → HoldsOctets n.kind n.attribute n.body
     → entry_in level (Some d) (tail n ++ rest) ≡ Ok (record { node = n; level = level }, rest)
 below_again level d n rest same after named holds =
-    let regroup : (n.name ++ content n.kind n.attribute n.body) ++ rest ≡ n.name ++ (content n.kind n.attribute n.body ++ rest) = append_assoc n.name (content n.kind n.attribute n.body) rest in
-    rw (kind_again n.kind (length n.name ∷ ((n.name ++ content n.kind n.attribute n.body) ++ rest)), regroup, name_again d.last n.name (content n.kind n.attribute n.body ++ rest) named after, content_again n.kind n.attribute n.body rest holds, same) refl
+    let regroup : (n.name ++ file_octets n.kind n.attribute n.body) ++ rest ≡ n.name ++ (file_octets n.kind n.attribute n.body ++ rest) = append_assoc n.name (file_octets n.kind n.attribute n.body) rest in
+    rw (kind_again n.kind (length n.name ∷ ((n.name ++ file_octets n.kind n.attribute n.body) ++ rest)), regroup, name_again d.last n.name (file_octets n.kind n.attribute n.body ++ rest) named after, file_octets_again n.kind n.attribute n.body rest holds, same) refl
 
 entry_again : (path : List OpenDir) (level : ℕ) (n : LowerNode) (rest : List ℕ) → IsEntry path level n → length path ≤ 65535 → entry_at path (entry level n ++ rest) ≡ Ok (record { node = n; level = level }, rest)
 unfolding entry_at

@@ -2,7 +2,7 @@
 use Rattle.std.proofs.Common.{◌≡◌, ℕ, zero, suc, ◌+◌, ◌-◌, ◌^◌, ◌<◌, ◌≤◌, Bool, true, false, cond, ltb, leb, List, [], ◌∷◌, ◌++◌, length, take, drop, Option, Some, None, Result, Ok, Err, refl, sym, ap, subst, ◌∙◌, append_assoc, arith}
 use Rattle.std.specs.Prelude.{IfSome, ◌&&◌}
 use Rattle.std.specs.Int.{Width, w16, w32, byte_len, from_be_bytes, to_be_bytes}
-use Rattle.std.proofs.lemmas.Bool.{ltb-false, le-ltb, ltb-true, lt-ltb, leb-true, le-leb}
+use Rattle.std.proofs.lemmas.Bool.{and_parts, ltb-false, le-ltb, ltb-true, lt-ltb, leb-true, le-leb}
 use Rattle.std.proofs.lemmas.List.{take_at, drop_at, take-append-drop, length-append, length-take}
 use Rattle.std.proofs.lemmas.Nat.{be_bytes_2, be_bytes_4, from_be_bytes-to_be_bytes_2, from_be_bytes-to_be_bytes_4}
 use Rattle.lower_model.specs.declared.kind.Kind.{Kind}
@@ -11,14 +11,11 @@ use Rattle.octet_model.specs.Octets.{AreOctets}
 use Rattle.lower_model.specs.Name.{is_name}
 use Rattle.lower_model.specs.LowerTree.{comes_before, HoldsOctets}
 use Rattle.image_model.specs.declared.fault.ImageKind.TheVariants as kinds
-use Rattle.image_model.specs.Spelling.{kind_code, attribute, sized, content}
-use Rattle.image_model.specs.Reading.{FieldFault, ◌>>=◌, wrong, number_at, octets_at, level_at, kind_at, name_at, attribute_at, body_at, content_at, Content}
-use Rattle.image_model.proofs.Octets.{octet_at, and_both, AreOctets-take, AreOctets-drop}
-
--- the value of a step that did not fail
-pub bind_ok : {A B : Type 0} (r : Result A FieldFault) (f : A → Result B FieldFault) (y : B) → (r >>= f) ≡ Ok y → (x : A) × (r ≡ Ok x) × (f x ≡ Ok y)
-bind_ok (Ok x) f y e = (x, refl, e)
-bind_ok (Err d) f y e = absurd cc
+use Rattle.image_model.specs.ImageText.{kind_code, attribute, sized, file_octets}
+use Rattle.image_model.specs.ImageReading.{FieldFault, wrong, number_at, octets_at, level_at, kind_at, name_at, attribute_at, body_at, file_octets_at, FileOctets}
+use Rattle.octet_model.proofs.Octets.{octet_at, AreOctets-take, AreOctets-drop}
+use Rattle.answer_model.specs.Answer.{◌>>=◌}
+use Rattle.answer_model.proofs.Binds.{bind_ok, ok_is}
 
 -- a test that did not fail: one that leads to a fault, and one that leads on
 pub guard_not : {A : Type 0} (b : Bool) (d : FieldFault) (r : Result A FieldFault) (y : A) → cond b (Err d) r ≡ Ok y → (b ≡ false) × (r ≡ Ok y)
@@ -31,9 +28,6 @@ guard false d r y e = absurd cc
 
 abbrev done : {A : Type 0} → A → Result A FieldFault
 done x = Ok x
-
-pub ok_is : {A : Type 0} (x y : A) → done x ≡ done y → x ≡ y
-ok_is x y e = cc
 
 -- what holds of the one value holds of the other
 pub moved : {A : Type 0} (P : A → Type 0) (x y : A) → done x ≡ done y → P x → P y
@@ -108,7 +102,7 @@ octets_again n x rest len =
 
 level_from : (depth n : ℕ) (octets m : List ℕ) → Takes octets (to_be_bytes w16 n) m → (ltb 0 n && leb n depth) ≡ true → Takes octets (to_be_bytes w16 (n - 1 + 1)) m × (n - 1 < depth)
 level_from depth n octets m t test =
-    let both = and_both (ltb 0 n) (leb n depth) test in
+    let both = and_parts (ltb 0 n) (leb n depth) test in
     let low : 0 < n = ltb-true 0 n both.0 in
     let high : n ≤ depth = leb-true n depth both.1 in
     let e : n - 1 + 1 ≡ n = omega arith in
@@ -207,21 +201,21 @@ pub body_again : (b rest : List ℕ) → length b < 2 ^ 32 → body_at (sized b 
 unfolding body_at
 body_again b rest h = rw (number_again w32 (2 ^ 32) wide32 (length b) (b ++ rest) h, octets_again (length b) b rest refl) refl
 
-pub content_takes : (kind : Kind) (octets : List ℕ) (c : Content) (rest : List ℕ) → AreOctets octets → content_at kind octets ≡ Ok (c, rest) → Takes octets (content kind c.attribute c.body) rest × HoldsOctets kind c.attribute c.body
-unfolding content_at
-content_takes Dir octets c rest fits e =
-    moved (λ (p : Content × List ℕ). Takes octets [] p.1 × ((p.0.attribute ≡ None) × (p.0.body ≡ []))) (record { attribute = None; body = [] }, octets) (c, rest) e (record { parts = refl; rest_fits = fits }, (refl, refl))
-content_takes File octets c rest fits e =
+pub file_octets_take : (kind : Kind) (octets : List ℕ) (c : FileOctets) (rest : List ℕ) → AreOctets octets → file_octets_at kind octets ≡ Ok (c, rest) → Takes octets (file_octets kind c.attribute c.body) rest × HoldsOctets kind c.attribute c.body
+unfolding file_octets_at
+file_octets_take Dir octets c rest fits e =
+    moved (λ (p : FileOctets × List ℕ). Takes octets [] p.1 × ((p.0.attribute ≡ None) × (p.0.body ≡ []))) (record { attribute = None; body = [] }, octets) (c, rest) e (record { parts = refl; rest_fits = fits }, (refl, refl))
+file_octets_take File octets c rest fits e =
     let a = bind_ok (attribute_at octets) (λ a. body_at a.1 >>= λ b. Ok (record { attribute = a.0; body = b.0 }, b.1)) (c, rest) e in
     let b = bind_ok (body_at a.0.1) (λ b. Ok (record { attribute = a.0.0; body = b.0 }, b.1)) (c, rest) a.2 in
     let t = attribute_takes octets a.0.0 a.0.1 fits a.1 in
     let u = body_takes a.0.1 b.0.0 b.0.1 t.0.rest_fits b.1 in
-    moved (λ (p : Content × List ℕ). Takes octets (attribute p.0.attribute ++ sized p.0.body) p.1 × HoldsOctets File p.0.attribute p.0.body) (record { attribute = a.0.0; body = b.0.0 }, b.0.1) (c, rest) b.2
+    moved (λ (p : FileOctets × List ℕ). Takes octets (attribute p.0.attribute ++ sized p.0.body) p.1 × HoldsOctets File p.0.attribute p.0.body) (record { attribute = a.0.0; body = b.0.0 }, b.0.1) (c, rest) b.2
     (Takes-then octets (attribute a.0.0) a.0.1 (sized b.0.0) b.0.1 t.0 u.0, (t.1, u.1, u.2))
 
-pub content_again : (kind : Kind) (a : Option (List ℕ)) (b rest : List ℕ) → HoldsOctets kind a b → content_at kind (content kind a b ++ rest) ≡ Ok (record { attribute = a; body = b }, rest)
-unfolding content_at
-content_again Dir a b rest h = rw (h.0, h.1) refl
-content_again File a b rest h =
+pub file_octets_again : (kind : Kind) (a : Option (List ℕ)) (b rest : List ℕ) → HoldsOctets kind a b → file_octets_at kind (file_octets kind a b ++ rest) ≡ Ok (record { attribute = a; body = b }, rest)
+unfolding file_octets_at
+file_octets_again Dir a b rest h = rw (h.0, h.1) refl
+file_octets_again File a b rest h =
     let e : (attribute a ++ sized b) ++ rest ≡ attribute a ++ (sized b ++ rest) = append_assoc (attribute a) (sized b) rest in
     rw (e, attribute_again a (sized b ++ rest) h.0, body_again b rest h.2) refl

@@ -1,18 +1,25 @@
 -- A whole image: what is read is a lower tree that is spelled so, and what is spelled so is read.
-use Rattle.std.proofs.Common.{◌≡◌, ℕ, ◌^◌, ◌≤◌, true, cond, eqb, leb, nat_eq, List, [], ◌∷◌, ◌++◌, length, take, drop, Ok, refl, sym, ap, ◌∙◌, arith}
+use Rattle.std.proofs.Common.{◌≡◌, ℕ, ◌+◌, ◌^◌, ◌<◌, ◌≤◌, true, cond, eqb, leb, nat_eq, List, [], ◌∷◌, ◌++◌, length, take, drop, Option, Some, None, Result, Ok, Err, refl, sym, ap, ◌∙◌, arith}
 use Rattle.std.specs.List.{starts_with}
-use Rattle.std.specs.Int.{w32, to_be_bytes}
+use Rattle.std.specs.Int.{w16, w32, to_be_bytes}
 use Rattle.std.proofs.lemmas.Bool.{eqb-true, leb-true, le-leb}
 use Rattle.std.proofs.lemmas.List.{append-nil, nil_from_length, take-append-drop}
 use Rattle.std.proofs.lemmas.Slice.Eq.{bytes_eq-Decides}
 use Rattle.octet_model.specs.Octets.{AreOctets}
+use Rattle.lower_model.specs.declared.kind.Kind.{Kind}
+use Rattle.lower_model.specs.declared.kind.Kind.TheVariants.{Dir, File}
 use Rattle.lower_model.specs.declared.node.LowerNode.{LowerNode}
-use Rattle.lower_model.specs.LowerTree.{root_path, IsRoot, IsLowerTree}
+use Rattle.lower_model.specs.declared.node.OpenDir.{OpenDir}
+use Rattle.lower_model.specs.LowerTree.{level_in, path_behind, root_path, HoldsOctets, IsEntry, AreEntries, IsRoot, IsLowerTree}
+use Rattle.image_model.specs.declared.fault.ImageFault.{ImageFault}
 use Rattle.image_model.specs.declared.fault.ImageKind.TheVariants as kinds
-use Rattle.image_model.specs.Spelling.{entries, image, magic, root}
-use Rattle.image_model.specs.Reading.{◌>>=◌, wrong, number_at, entries_at, ends, counted_at, nodes_at}
-use Rattle.image_model.proofs.Octets.{AreOctets-drop}
-use Rattle.image_model.proofs.Fields.{Takes, bind_ok, guard, moved, Takes-then, wide32, number_takes, number_again}
+use Rattle.image_model.specs.ImageText.{kind_code, attribute, sized, file_octets, entry, entries, image, magic, root}
+use Rattle.image_model.specs.ImageReading.{FieldFault, wrong, number_at, entries_at, whole_tree, counted_at, nodes_at, with_offset, reading}
+use Rattle.octet_model.proofs.Octets.{AreOctets-append, AreOctets-drop, AreOctets-be_16, AreOctets-be_32}
+use Rattle.lower_model.proofs.NameOctets.{AreOctets-name, length-name}
+use Rattle.answer_model.specs.Answer.{◌>>=◌}
+use Rattle.answer_model.proofs.Binds.{bind_ok, ok_is}
+use Rattle.image_model.proofs.Fields.{Takes, guard, moved, Takes-then, wide32, number_takes, number_again}
 use Rattle.image_model.proofs.Entries.{entries_take, entries_again}
 
 abbrev counted : List LowerNode → List ℕ
@@ -27,9 +34,9 @@ counted_is octets n nodes rest t nothing len =
 counted_takes : (octets : List ℕ) (nodes : List LowerNode) → AreOctets octets → counted_at octets ≡ Ok nodes → IsLowerTree nodes × (octets ≡ counted nodes)
 unfolding counted_at
 counted_takes octets nodes fits e =
-    let a = bind_ok (number_at w32 octets) (λ n. cond (leb n.0 4095) (entries_at n.0 root_path 1 n.1 >>= ends) (wrong kinds.TooMany octets)) nodes e in
-    let g = guard (leb a.0.0 4095) (record { left = length octets; kind = kinds.TooMany }) (entries_at a.0.0 root_path 1 a.0.1 >>= ends) nodes a.2 in
-    let b = bind_ok (entries_at a.0.0 root_path 1 a.0.1) ends nodes g.1 in
+    let a = bind_ok (number_at w32 octets) (λ n. cond (leb n.0 4095) (entries_at n.0 root_path 1 n.1 >>= whole_tree) (wrong kinds.TooMany octets)) nodes e in
+    let g = guard (leb a.0.0 4095) (record { left = length octets; kind = kinds.TooMany }) (entries_at a.0.0 root_path 1 a.0.1 >>= whole_tree) nodes a.2 in
+    let b = bind_ok (entries_at a.0.0 root_path 1 a.0.1) whole_tree nodes g.1 in
     let h = guard (eqb (length b.0.1) 0) (record { left = length b.0.1; kind = kinds.Extra }) (Ok (root ∷ b.0.0)) nodes b.2 in
     let t = number_takes w32 (2 ^ 32) wide32 octets a.0.0 a.0.1 fits a.1 in
     let u = entries_take a.0.0 root_path 1 a.0.1 b.0 (omega arith, omega arith, tt) t.0.rest_fits b.1 in
@@ -71,3 +78,51 @@ pub nodes_again : (nodes : List LowerNode) → IsLowerTree nodes → nodes_at (i
 unfolding nodes_at
 nodes_again [] h = absurd h
 nodes_again (r ∷ nodes) h = counted_again r nodes h
+
+-- ---- the image is a list of octets, and no other lower tree has it
+
+AreOctets-sized : (b : List ℕ) → AreOctets b → AreOctets (sized b)
+AreOctets-sized b fits = AreOctets-append (to_be_bytes w32 (length b)) b (AreOctets-be_32 (length b)) fits
+
+AreOctets-file_octets : (kind : Kind) (a : Option (List ℕ)) (b : List ℕ) → HoldsOctets kind a b → AreOctets (file_octets kind a b)
+AreOctets-file_octets Dir a b h = tt
+AreOctets-file_octets File None b h = (omega arith, AreOctets-sized b h.1)
+AreOctets-file_octets File (Some a) b h = AreOctets-append (attribute (Some a)) (sized b) (omega arith, AreOctets-sized a h.0.0) (AreOctets-sized b h.1)
+
+kind_code-octet : (kind : Kind) → kind_code kind < 256
+kind_code-octet Dir = omega arith
+kind_code-octet File = omega arith
+
+AreOctets-entry : (path : List OpenDir) (level : ℕ) (n : LowerNode) → IsEntry path level n → AreOctets (entry level n)
+AreOctets-entry path level n i =
+    let behind = AreOctets-append n.name (file_octets n.kind n.attribute n.body) (AreOctets-name n.name i.name) (AreOctets-file_octets n.kind n.attribute n.body i.octets) in
+    AreOctets-append (to_be_bytes w16 (level + 1)) (kind_code n.kind ∷ (length n.name ∷ (n.name ++ file_octets n.kind n.attribute n.body))) (AreOctets-be_16 (level + 1)) (kind_code-octet n.kind, (length-name n.name i.name, behind))
+
+AreOctets-entries : (path : List OpenDir) (number : ℕ) (nodes : List LowerNode) → AreEntries path number nodes → AreOctets (entries path number nodes)
+AreOctets-entries path number [] are = tt
+AreOctets-entries path number (n ∷ nodes) are =
+    let behind = path_behind path (level_in path n.parent) number n in
+    AreOctets-append (entry (level_in path n.parent) n) (entries behind (number + 1) nodes) (AreOctets-entry path (level_in path n.parent) n are.0) (AreOctets-entries behind (number + 1) nodes are.1)
+
+pub AreOctets-image : (nodes : List LowerNode) → IsLowerTree nodes → AreOctets (image nodes)
+AreOctets-image [] h = tt
+AreOctets-image (r ∷ nodes) h =
+    let counted = AreOctets-append (to_be_bytes w32 (length nodes)) (entries root_path 1 nodes) (AreOctets-be_32 (length nodes)) (AreOctets-entries root_path 1 nodes h.2) in
+    (omega arith, (omega arith, (omega arith, (omega arith, (omega arith, (omega arith, (omega arith, (omega arith, counted))))))))
+
+-- ---- the reading
+
+with_offset-ok : (total : ℕ) (read : Result (List LowerNode) FieldFault) (nodes : List LowerNode) → with_offset total read ≡ Ok nodes → read ≡ Ok nodes
+with_offset-ok total (Ok x) nodes e = cc
+with_offset-ok total (Err f) nodes e = absurd cc
+
+-- what is read is a lower tree that is spelled so
+pub reading_takes : (octets : List ℕ) (nodes : List LowerNode) → AreOctets octets → reading octets ≡ Ok nodes → IsLowerTree nodes × (octets ≡ image nodes)
+reading_takes octets nodes fits e = nodes_take octets nodes fits (with_offset-ok (length octets) (nodes_at octets) nodes e)
+
+-- what is spelled is read
+pub reading_again : (nodes : List LowerNode) → IsLowerTree nodes → reading (image nodes) ≡ Ok nodes
+reading_again nodes h = ap (with_offset (length (image nodes))) (nodes_again nodes h)
+
+pub one_tree : (xs ys : List LowerNode) → IsLowerTree xs → IsLowerTree ys → image xs ≡ image ys → xs ≡ ys
+one_tree xs ys lawful others e = ok_is {E = ImageFault} xs ys (sym (reading_again xs lawful) ∙ ap reading e ∙ reading_again ys others)

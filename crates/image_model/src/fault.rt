@@ -29,7 +29,7 @@ pub enum ImageKind {
 #[derive(Clone, Copy, Debug, PartialEq, Eq)]
 pub struct ImageFault {
     /// The first octet of the wrong field, counted from 0.
-    pub place: usize,
+    pub offset: usize,
     /// What is wrong with that field.
     pub kind: ImageKind,
 }

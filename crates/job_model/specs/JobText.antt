@@ -1,7 +1,7 @@
 -- The one spelling of a job.
 use Rattle.std.specs.Prelude.{ℕ, ◌≡◌, ◌≤◌, List, [], ◌∷◌, ◌++◌, length, map, codes}
 use Rattle.std.specs.List.{flat_map}
-use Rattle.image_model.specs.Spelling.{image}
+use Rattle.image_model.specs.ImageText.{image}
 use Rattle.text_model.specs.Line.{line, number, hex, path}
 use Rattle.session_model.specs.declared.op.Op.{Op}
 use Rattle.session_model.specs.declared.op.Op.TheVariants.{Mkdir, List as ListOp}

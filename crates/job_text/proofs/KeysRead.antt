@@ -3,7 +3,7 @@ use Rattle.std.proofs.Common.{◌≡◌, ℕ, List, Result, Ok, refl, codes}
 use Rattle.line_reader.specs.Fields.{sized_hex_in}
 use Rattle.job_text.specs.declared.fault.LineError.{LineError}
 use Rattle.job_text.specs.declared.fault.LineError.TheVariants as errors
-use Rattle.job_text.specs.Reading.{◌>>=◌, Part, Fails, field_at, passphrase_in, keys_at, keys_of}
+use Rattle.job_text.specs.JobReading.{◌>>=◌, Part, Fails, field_at, passphrase_in, keys_at, keys_of}
 
 abbrev part_of : {A : Type 0} → A → List ℕ → Part A
 part_of value rest = Ok (value, rest)

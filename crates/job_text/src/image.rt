@@ -1,6 +1,6 @@
 ghost use Rattle.std.specs.Prelude.{◌≡◌, ◌≤◌, codes, length};
 ghost use Rattle.line_reader.specs.Fields.{number_in};
-ghost use Rattle.job_text.specs.Reading.{Gives, field_at, behind_end, sized_image_at, image_at};
+ghost use Rattle.job_text.specs.JobReading.{Gives, field_at, behind_end, sized_image_at, image_at};
 
 use crate::fault::LineError;
 use crate::line::word_line;
@@ -55,7 +55,7 @@ fn sized_image_of(
 }
 
 /// The tree of the image part of a job, and the octets behind that part.
-#[tactic(auto, unfolding(crate::specs::Reading::image_at))]
+#[tactic(auto, unfolding(crate::specs::JobReading::image_at))]
 pub fn image_of(alloc: Global, octets: &[u8]) -> Result<(LowerTree, &[u8]), LineError>
     ensures { Gives (λ x. (x.0, x.1.now)) result (image_at octets.now) }
 {

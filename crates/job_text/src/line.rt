@@ -1,6 +1,6 @@
 ghost use Rattle.std.specs.Prelude.{◌≡◌};
 ghost use Rattle.std.specs.Option.{option_map};
-ghost use Rattle.job_text.specs.Reading.{Gives, or_wrong, behind, word_at, whole_at};
+ghost use Rattle.job_text.specs.JobReading.{Gives, or_wrong, behind, word_at, whole_at};
 
 use crate::fault::LineError;
 use line_reader::first_line;
@@ -13,7 +13,7 @@ pub fn text_behind<'a>(word: &[u8], text: &'a [u8]) -> Option<&'a [u8]>
 }
 
 /// What stands behind a word in the first line, and the octets behind the line.
-#[tactic(auto, unfolding(crate::specs::Reading::word_at))]
+#[tactic(auto, unfolding(crate::specs::JobReading::word_at))]
 pub fn word_line<'a>(word: &[u8], octets: &'a [u8]) -> Result<(&'a [u8], &'a [u8]), LineError>
     ensures { Gives (λ x. (x.0.now, x.1.now)) result (word_at word.now octets.now) }
 {
@@ -27,7 +27,7 @@ pub fn word_line<'a>(word: &[u8], octets: &'a [u8]) -> Result<(&'a [u8], &'a [u8
 }
 
 /// A first line that is this word, and the octets behind the line.
-#[tactic(auto, unfolding(crate::specs::Reading::whole_at))]
+#[tactic(auto, unfolding(crate::specs::JobReading::whole_at))]
 pub fn whole_line<'a>(word: &[u8], octets: &'a [u8]) -> Result<&'a [u8], LineError>
     ensures { Gives (λ rest. rest.now) result (whole_at word.now octets.now) }
 {

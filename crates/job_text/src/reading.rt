@@ -2,7 +2,7 @@ ghost use Rattle.std.specs.Prelude.{◌≡◌, IfOk, Err};
 ghost use Rattle.job_model.specs.declared.job.Job.{Job as JobValue};
 ghost use Rattle.job_model.specs.JobText.{IsJobText};
 ghost use Rattle.job_text.specs.Outcome.{IsNoJob, IsJobOrMemory};
-ghost use Rattle.job_text.specs.Reading.{Gives, end_at, work_at, job_at, is_served_so_far as served_test};
+ghost use Rattle.job_text.specs.JobReading.{Gives, end_at, work_at, job_at, is_served_so_far as served_test};
 
 use crate::fault::{JobError, LineError};
 use crate::image::image_of;
@@ -26,7 +26,7 @@ struct Work {
     schedule: Items<u32>,
 }
 
-#[tactic(auto, unfolding(crate::specs::Reading::end_at))]
+#[tactic(auto, unfolding(crate::specs::JobReading::end_at))]
 fn ends(octets: &[u8]) -> Result<(), LineError>
     ensures { Gives (λ x. x) result (end_at octets.now) }
 {
@@ -37,7 +37,7 @@ fn ends(octets: &[u8]) -> Result<(), LineError>
     Ok(())
 }
 
-#[tactic(auto, unfolding(crate::specs::Reading::work_at))]
+#[tactic(auto, unfolding(crate::specs::JobReading::work_at))]
 fn work_of(alloc: Global, octets: &[u8]) -> Result<Work, LineError>
     ensures { Gives (λ x. (x.image, x.scripts, x.schedule)) result (work_at octets.now) }
 {
@@ -52,7 +52,7 @@ fn work_of(alloc: Global, octets: &[u8]) -> Result<Work, LineError>
     })
 }
 
-#[tactic(auto, unfolding(crate::specs::Reading::job_at))]
+#[tactic(auto, unfolding(crate::specs::JobReading::job_at))]
 fn job_of(alloc: Global, octets: &[u8]) -> Result<Job, LineError>
     ensures { Gives (λ job. job) result (job_at octets.now) }
 {

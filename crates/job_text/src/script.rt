@@ -1,5 +1,5 @@
 ghost use Rattle.std.specs.Prelude.{◌≡◌, ◌≤◌, codes, length, IfOk};
-ghost use Rattle.job_text.specs.Reading.{Gives, field_at, count_in, op_in, op_at, times_at, script_at, scripts_at};
+ghost use Rattle.job_text.specs.JobReading.{Gives, field_at, count_in, op_in, op_at, times_at, script_at, scripts_at};
 
 use crate::fault::LineError;
 use crate::line::{text_behind, word_line};
@@ -40,7 +40,7 @@ fn read_op(alloc: Global, text: &[u8]) -> Result<Option<Op>, AllocError>
     Ok(None)
 }
 
-#[tactic(auto, unfolding(crate::specs::Reading::op_at))]
+#[tactic(auto, unfolding(crate::specs::JobReading::op_at))]
 fn op_of(alloc: Global, octets: &[u8]) -> Result<(Op, &[u8]), LineError>
     ensures { Gives (λ x. (x.0, x.1.now)) result (op_at octets.now) }
 {
@@ -66,7 +66,7 @@ fn ops_of(alloc: Global, count: u64, octets: &[u8]) -> Result<(Items<Op>, &[u8])
     Ok((ops, rest))
 }
 
-#[tactic(auto, unfolding(crate::specs::Reading::script_at))]
+#[tactic(auto, unfolding(crate::specs::JobReading::script_at))]
 fn script_of(alloc: Global, octets: &[u8]) -> Result<(Items<Op>, &[u8]), LineError>
     ensures { Gives (λ x. (x.0, x.1.now)) result (script_at octets.now) }
 {
@@ -93,7 +93,7 @@ fn sessions_of(
 }
 
 /// The scripts of a job's sessions, and the octets behind them.
-#[tactic(auto, unfolding(crate::specs::Reading::scripts_at))]
+#[tactic(auto, unfolding(crate::specs::JobReading::scripts_at))]
 pub fn scripts_of(alloc: Global, octets: &[u8]) -> Result<(Items<Items<Op>>, &[u8]), LineError>
     ensures read { Gives (λ x. (x.0, x.1.now)) result (scripts_at octets.now) }
     ensures few { IfOk result (λ x. length x.0 ≤ 16) }

@@ -1,5 +1,5 @@
 ghost use Rattle.std.specs.Prelude.{◌≡◌, codes, IfOk};
-ghost use Rattle.job_text.specs.Reading.{Gives, field_at, passphrase_in, coding_in, place_in, keys_at, making_at};
+ghost use Rattle.job_text.specs.JobReading.{Gives, field_at, passphrase_in, coding_in, place_in, keys_at, making_at};
 ghost use Rattle.line_reader.specs.Fields.{sized_hex_in};
 
 use crate::fault::LineError;
@@ -112,7 +112,7 @@ fn place_of(octets: &[u8]) -> Result<(MetaPlace, &[u8]), LineError>
 }
 
 /// The passphrase and the salts, and the octets behind their lines.
-#[tactic(auto, unfolding(crate::specs::Reading::keys_at))]
+#[tactic(auto, unfolding(crate::specs::JobReading::keys_at))]
 pub fn keys_of(alloc: Global, octets: &[u8]) -> Result<(Keys, &[u8]), LineError>
     ensures { Gives (λ x. (x.0, x.1.now)) result (keys_at octets.now) }
 {
@@ -128,7 +128,7 @@ pub fn keys_of(alloc: Global, octets: &[u8]) -> Result<(Keys, &[u8]), LineError>
 }
 
 /// How new names and files are made, and the octets behind its lines.
-#[tactic(auto, unfolding(crate::specs::Reading::making_at))]
+#[tactic(auto, unfolding(crate::specs::JobReading::making_at))]
 pub fn making_of(octets: &[u8]) -> Result<(Making, &[u8]), LineError>
     ensures { Gives (λ x. (x.0, x.1.now)) result (making_at octets.now) }
 {

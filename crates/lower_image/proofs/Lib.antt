@@ -1,1 +1,1 @@
-pub mod Loop
+pub mod EntriesInARow

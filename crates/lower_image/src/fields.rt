@@ -1,12 +1,12 @@
 ghost use Rattle.std.specs.Prelude.{◌≡◌, ◌<◌, ℕ, length, IfOk, Some};
 ghost use Rattle.std.specs.Int.{w16, w32};
 ghost use Rattle.std.specs.Option.{option_copied};
-ghost use Rattle.image_model.specs.Reading.{number_at, octets_at, level_at, kind_at, name_at, attribute_at, body_at, content_at, Content, entry_in, entry_at, Entry};
-ghost use Rattle.lower_image.specs.Gives.{Gives};
+ghost use Rattle.image_model.specs.ImageReading.{number_at, octets_at, level_at, kind_at, name_at, attribute_at, body_at, file_octets_at, entry_in, entry_at, Entry};
+ghost use Rattle.lower_image.specs.FieldErrors.{Gives};
 
 use crate::error::{FieldError, wrong};
 use image_model::ImageKind;
-use lower_tree::{Items, Kind, LowerNode, OpenDir, comes_before, is_name};
+use lower_tree::{Items, Kind, LONGEST_ATTRIBUTE, LowerNode, OpenDir, comes_before, is_name};
 use std::alloc::{AllocError, Global};
 
 fn u16_at(octets: &[u8]) -> Result<(u16, &[u8]), FieldError>
@@ -36,7 +36,7 @@ fn slice_at(count: usize, octets: &[u8]) -> Result<(&[u8], &[u8]), FieldError>
     Ok(octets.split_at(count))
 }
 
-#[tactic(auto, unfolding(image_model::specs::Reading::level_at))]
+#[tactic(auto, unfolding(image_model::specs::ImageReading::level_at))]
 fn level_of(depth: usize, octets: &[u8]) -> Result<(usize, &[u8]), FieldError>
     ensures level { Gives (λ x. (x.0, x.1.now)) result (level_at depth octets.now) }
     ensures open { IfOk result (λ x. x.0 < depth) }
@@ -50,7 +50,7 @@ fn level_of(depth: usize, octets: &[u8]) -> Result<(usize, &[u8]), FieldError>
     }
 }
 
-#[tactic(auto, unfolding(image_model::specs::Reading::kind_at))]
+#[tactic(auto, unfolding(image_model::specs::ImageReading::kind_at))]
 fn kind_of(octets: &[u8]) -> Result<(Kind, &[u8]), FieldError>
     ensures { Gives (λ x. (x.0, x.1.now)) result (kind_at octets.now) }
 {
@@ -62,7 +62,7 @@ fn kind_of(octets: &[u8]) -> Result<(Kind, &[u8]), FieldError>
     }
 }
 
-#[tactic(auto, unfolding(image_model::specs::Reading::name_at))]
+#[tactic(auto, unfolding(image_model::specs::ImageReading::name_at))]
 fn name_of<'a>(last: &[u8], octets: &'a [u8]) -> Result<(&'a [u8], &'a [u8]), FieldError>
     ensures { Gives (λ x. (x.0.now, x.1.now)) result (name_at last.now octets.now) }
 {
@@ -82,7 +82,7 @@ fn name_of<'a>(last: &[u8], octets: &'a [u8]) -> Result<(&'a [u8], &'a [u8]), Fi
     }
 }
 
-#[tactic(auto, unfolding(image_model::specs::Reading::attribute_at))]
+#[tactic(auto, unfolding(image_model::specs::ImageReading::attribute_at))]
 fn attribute_of(octets: &[u8]) -> Result<(Option<&[u8]>, &[u8]), FieldError>
     ensures { Gives (λ x. (option_copied x.0, x.1.now)) result (attribute_at octets.now) }
 {
@@ -91,7 +91,7 @@ fn attribute_of(octets: &[u8]) -> Result<(Option<&[u8]>, &[u8]), FieldError>
         [0, rest @ ..] => Ok((None, rest)),
         [1, rest @ ..] => {
             let (len, behind) = u32_at(rest)?;
-            if len > 65536 {
+            if len as usize > LONGEST_ATTRIBUTE {
                 return Err(wrong(ImageKind::AttributeLength, rest));
             }
             let (attribute, behind) = slice_at(len as usize, behind)?;
@@ -101,7 +101,7 @@ fn attribute_of(octets: &[u8]) -> Result<(Option<&[u8]>, &[u8]), FieldError>
     }
 }
 
-#[tactic(auto, unfolding(image_model::specs::Reading::body_at))]
+#[tactic(auto, unfolding(image_model::specs::ImageReading::body_at))]
 fn body_of(octets: &[u8]) -> Result<(&[u8], &[u8]), FieldError>
     ensures { Gives (λ x. (x.0.now, x.1.now)) result (body_at octets.now) }
 {
@@ -111,13 +111,13 @@ fn body_of(octets: &[u8]) -> Result<(&[u8], &[u8]), FieldError>
 
 /// The attribute and the body of a node.
 #[derive(Drop)]
-struct Octets {
+struct FileOctets {
     attribute: Option<Items<u8>>,
     body: Items<u8>,
 }
 
-fn kept_attribute(alloc: Global, attribute: Option<&[u8]>) -> Result<Option<Items<u8>>, AllocError>
-    ensures { IfOk result (λ kept. kept ≡ option_copied attribute.entry) }
+fn attribute_copy(alloc: Global, attribute: Option<&[u8]>) -> Result<Option<Items<u8>>, AllocError>
+    ensures { IfOk result (λ copy. copy ≡ option_copied attribute.entry) }
 {
     match attribute {
         None => Ok(None),
@@ -125,13 +125,17 @@ fn kept_attribute(alloc: Global, attribute: Option<&[u8]>) -> Result<Option<Item
     }
 }
 
-#[tactic(auto, unfolding(image_model::specs::Reading::content_at))]
-fn content_of(alloc: Global, kind: Kind, octets: &[u8]) -> Result<(Octets, &[u8]), FieldError>
-    ensures { Gives (λ x. (record { attribute = x.0.attribute; body = x.0.body }, x.1.now)) result (content_at kind octets.now) }
+#[tactic(auto, unfolding(image_model::specs::ImageReading::file_octets_at))]
+fn file_octets_of(
+    alloc: Global,
+    kind: Kind,
+    octets: &[u8],
+) -> Result<(FileOctets, &[u8]), FieldError>
+    ensures { Gives (λ x. (record { attribute = x.0.attribute; body = x.0.body }, x.1.now)) result (file_octets_at kind octets.now) }
 {
     match kind {
         Kind::Dir => Ok((
-            Octets {
+            FileOctets {
                 attribute: None,
                 body: Items::new(alloc),
             },
@@ -140,9 +144,9 @@ fn content_of(alloc: Global, kind: Kind, octets: &[u8]) -> Result<(Octets, &[u8]
         Kind::File => {
             let (attribute, rest) = attribute_of(octets)?;
             let (body, rest) = body_of(rest)?;
-            let attribute = kept_attribute(alloc, attribute)?;
+            let attribute = attribute_copy(alloc, attribute)?;
             let body = Items::from_slice(alloc, body)?;
-            Ok((Octets { attribute, body }, rest))
+            Ok((FileOctets { attribute, body }, rest))
         }
     }
 }
@@ -156,9 +160,9 @@ fn entry_below<'a>(
 {
     let (kind, rest) = kind_of(octets)?;
     let (name, rest) = name_of(parent.last.as_slice(), rest)?;
-    let (content, rest) = content_of(alloc, kind, rest)?;
+    let (held, rest) = file_octets_of(alloc, kind, rest)?;
     let name = Items::from_slice(alloc, name)?;
-    let Octets { attribute, body } = content;
+    let FileOctets { attribute, body } = held;
     let node = LowerNode {
         parent: parent.node,
         kind,
@@ -169,8 +173,8 @@ fn entry_below<'a>(
     Ok((node, rest))
 }
 
-/// The entry that begins here, with its place among the open directories, and the octets behind it.
-#[tactic(auto, unfolding(image_model::specs::Reading::entry_at))]
+/// The entry that begins here, with the index of its directory among the open ones, and the octets behind it.
+#[tactic(auto, unfolding(image_model::specs::ImageReading::entry_at))]
 pub fn entry_of<'a>(
     alloc: Global,
     path: &[OpenDir],

@@ -5,7 +5,7 @@ use lower_tree::{Items, Kind, LowerNode, OpenDir};
 use std::alloc::{AllocError, Global};
 
 /// The open directories before the first entry: the root alone.
-pub fn at_root(alloc: Global) -> Result<Vec<OpenDir>, AllocError>
+pub fn path_of_root(alloc: Global) -> Result<Vec<OpenDir>, AllocError>
     ensures { IfOk result (λ path. path.items ≡ root_path) }
 {
     let mut path = Vec::new(alloc);

@@ -1,16 +1,17 @@
-ghost use Rattle.std.specs.Prelude.{◌≡◌, ◌<◌, ◌≤◌, ◌∷◌, [], List, length, IfOk, IfErr, Ok, nat_eq};
+ghost use Rattle.std.specs.Prelude.{◌≡◌, ◌≤◌, ⊤, ◌∷◌, [], List, length, IfOk, IfErr, Ok, nat_eq};
 ghost use Rattle.std.specs.List.{starts_with};
 ghost use Rattle.lower_model.specs.declared.node.LowerNode.{LowerNode};
 ghost use Rattle.lower_model.specs.LowerTree.{IsLowerTree, root_path};
-ghost use Rattle.image_model.specs.Spelling.{magic, image, root};
-ghost use Rattle.image_model.specs.Reading.{entries_at, counted_at, nodes_at, reading, GivesOrMemory, IsPlaceWithin};
-ghost use Rattle.lower_image.specs.Gives.{Gives, behind};
+ghost use Rattle.image_model.specs.ImageText.{magic, image, root};
+ghost use Rattle.image_model.specs.ImageReading.{entries_at, counted_at, nodes_at, reading, fault_of, HasOffsetWithin};
+ghost use Rattle.answer_model.specs.Answer.{GivesAs};
+ghost use Rattle.lower_image.specs.FieldErrors.{Gives, behind};
 
 use crate::error::{FieldError, wrong};
 use crate::fields::{entry_of, u32_at};
-use crate::path::{at_root, go_behind};
+use crate::path::{go_behind, path_of_root};
 use image_model::{ImageError, ImageFault, ImageKind};
-use lower_tree::{Items, Kind, LowerNode, LowerTree};
+use lower_tree::{Items, Kind, LowerNode, LowerTree, MOST_ENTRIES};
 use std::alloc::Global;
 
 fn root_node(alloc: Global) -> LowerNode
@@ -31,10 +32,10 @@ fn entries_of(
     count: u32,
     octets: &[u8],
 ) -> Result<(Vec<LowerNode>, &[u8]), FieldError>
-    requires { count < 4096 }
+    requires { count ≤ MOST_ENTRIES }
     ensures { Gives (λ x. (x.0.items, x.1.now)) result (behind (root ∷ []) (entries_at count root_path 1 octets.now)) }
 {
-    let mut path = at_root(alloc)?;
+    let mut path = path_of_root(alloc)?;
     let mut nodes = Vec::new(alloc);
     nodes.push(root_node(alloc))?;
     let mut rest = octets;
@@ -47,12 +48,12 @@ fn entries_of(
     Ok((nodes, rest))
 }
 
-#[tactic(auto, unfolding(image_model::specs::Reading::counted_at))]
-fn counted_of(alloc: Global, octets: &[u8]) -> Result<Vec<LowerNode>, FieldError>
+#[tactic(auto, unfolding(image_model::specs::ImageReading::counted_at))]
+fn counted_nodes(alloc: Global, octets: &[u8]) -> Result<Vec<LowerNode>, FieldError>
     ensures { Gives (λ v. v.items) result (counted_at octets.now) }
 {
     let (count, rest) = u32_at(octets)?;
-    if count > 4095 {
+    if count as usize > MOST_ENTRIES {
         return Err(wrong(ImageKind::TooMany, octets));
     }
     let (nodes, rest) = entries_of(alloc, count, rest)?;
@@ -68,23 +69,23 @@ fn starts_with_magic(octets: &[u8]) -> bool
     octets.starts_with(b"ECRYIMG1")
 }
 
-#[tactic(auto, unfolding(image_model::specs::Reading::nodes_at))]
+#[tactic(auto, unfolding(image_model::specs::ImageReading::nodes_at))]
 fn nodes_of(alloc: Global, octets: &[u8]) -> Result<Vec<LowerNode>, FieldError>
     ensures { Gives (λ v. v.items) result (nodes_at octets.now) }
 {
     if !starts_with_magic(octets) {
         return Err(wrong(ImageKind::Magic, octets));
     }
-    counted_of(alloc, &octets[8..])
+    counted_nodes(alloc, &octets[8..])
 }
 
 fn tree_of(alloc: Global, octets: &[u8]) -> Result<LowerTree, ImageError>
-    ensures { GivesOrMemory result (reading octets.now) }
+    ensures { GivesAs (λ nodes. nodes) fault_of ⊤ result (reading octets.now) }
 {
     match nodes_of(alloc, octets) {
         Ok(nodes) => Ok(LowerTree::from_vec(nodes)),
         Err(FieldError::Fault { left, kind }) => Err(ImageError::Fault(ImageFault {
-            place: octets.len() - left,
+            offset: octets.len() - left,
             kind,
         })),
         Err(FieldError::Memory) => Err(ImageError::Memory),
@@ -96,10 +97,11 @@ pub fn read_image(alloc: Global, octets: &[u8]) -> Result<LowerTree, ImageError>
     // What is read is a lower tree that is spelled so.
     ensures found { IfOk result (λ tree. IsLowerTree tree × (octets.now ≡ image tree)) }
     // What is spelled so is read, unless memory ran out.
-    ensures only { (nodes : List LowerNode) → IsLowerTree nodes → octets.now ≡ image nodes → GivesOrMemory result (Ok nodes) }
+    ensures only { (nodes : List LowerNode) → IsLowerTree nodes → octets.now ≡ image nodes
+        → GivesAs (λ nodes. nodes) fault_of ⊤ result (Ok nodes) }
     // Which fault it is, and where.
-    ensures exact { GivesOrMemory result (reading octets.now) }
-    ensures within { IfErr result (IsPlaceWithin octets.now) }
+    ensures exact { GivesAs (λ nodes. nodes) fault_of ⊤ result (reading octets.now) }
+    ensures within { IfErr result (HasOffsetWithin octets.now) }
 {
     tree_of(alloc, octets)
 }

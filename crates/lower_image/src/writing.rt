@@ -1,11 +1,11 @@
-ghost use Rattle.std.specs.Prelude.{◌≡◌, ◌<◌, ◌^◌, ◌++◌, List, length, OnOk, IfOk};
+ghost use Rattle.std.specs.Prelude.{◌≡◌, ◌<◌, ◌≤◌, ◌^◌, ◌++◌, List, length, OnOk, IfOk};
 ghost use Rattle.lower_model.specs.declared.node.LowerNode.{LowerNode};
 ghost use Rattle.octet_model.specs.Octets.{AreOctets};
 ghost use Rattle.lower_model.specs.LowerTree.{HoldsOctets, IsLowerTree, AreEntries, level_in, root_path};
-ghost use Rattle.image_model.specs.Spelling.{content, entry, entries, image, kind_code as code_of_kind, sized};
+ghost use Rattle.image_model.specs.ImageText.{file_octets, entry, entries, image, kind_code as code_of_kind, sized};
 
-use crate::path::{at_root, go_behind};
-use lower_tree::{Kind, LowerNode, LowerTree, OpenDir};
+use crate::path::{go_behind, path_of_root};
+use lower_tree::{Kind, LowerNode, LowerTree, MOST_ENTRIES, OpenDir};
 use std::alloc::{AllocError, Global};
 
 fn put_sized(out: &mut Vec<u8>, octets: &[u8]) -> Result<(), AllocError>
@@ -17,9 +17,9 @@ fn put_sized(out: &mut Vec<u8>, octets: &[u8]) -> Result<(), AllocError>
     Ok(())
 }
 
-fn put_content(out: &mut Vec<u8>, node: &LowerNode) -> Result<(), AllocError>
+fn put_file_octets(out: &mut Vec<u8>, node: &LowerNode) -> Result<(), AllocError>
     requires { HoldsOctets node.now.kind node.now.attribute node.now.body }
-    ensures { OnOk result (out.new.items ≡ out.old.items ++ content node.now.kind node.now.attribute node.now.body) }
+    ensures { OnOk result (out.new.items ≡ out.old.items ++ file_octets node.now.kind node.now.attribute node.now.body) }
 {
     match node.kind {
         Kind::Dir => Ok(()),
@@ -55,7 +55,7 @@ fn put_entry(out: &mut Vec<u8>, level: usize, node: &LowerNode) -> Result<(), Al
     out.push(kind_code(node.kind))?;
     out.push(node.name.len() as u8)?;
     out.extend_from_slice(node.name.as_slice())?;
-    put_content(out, node)
+    put_file_octets(out, node)
 }
 
 fn level_of(path: &[OpenDir], parent: u32) -> usize
@@ -70,11 +70,11 @@ fn level_of(path: &[OpenDir], parent: u32) -> usize
 }
 
 fn put_entries(alloc: Global, out: &mut Vec<u8>, nodes: &[LowerNode]) -> Result<(), AllocError>
-    requires few { length nodes.now < 4096 }
+    requires few { length nodes.now ≤ MOST_ENTRIES }
     requires entries { AreEntries root_path 1 nodes.now }
     ensures { OnOk result (out.new.items ≡ out.old.items ++ entries root_path 1 nodes.now) }
 {
-    let mut path = at_root(alloc)?;
+    let mut path = path_of_root(alloc)?;
     let mut number = 1;
     for node in nodes {
         let level = level_of(&path, node.parent);

@@ -3,6 +3,7 @@ use Rattle.std.specs.Prelude.{ℕ, ◌≡◌, ◌<◌, ◌≤◌, ◌+◌, ◌^�
 use Rattle.std.specs.Ordering.{nat_cmp, is_lt}
 use Rattle.std.specs.Cmp.Lexicographic.{slice_cmp}
 use Rattle.std.specs.List.{position_or_len}
+use Rattle.lower_model.specs.declared.limits.TheConstants.{MOST_ENTRIES, LONGEST_ATTRIBUTE}
 use Rattle.lower_model.specs.declared.kind.Kind.{Kind}
 use Rattle.lower_model.specs.declared.kind.Kind.TheVariants.{Dir, File}
 use Rattle.lower_model.specs.declared.node.LowerNode.{LowerNode}
@@ -15,7 +16,7 @@ abbrev pub comes_before : List ℕ → List ℕ → Bool
 comes_before a b = is_lt (slice_cmp nat_cmp a b)
 
 -- In preorder the next entry can stand in the node before it, if that is a directory, or in a directory above that.
--- These are the open directories, from the root on, each with its last name. A directory's level is its place among them.
+-- These are the open directories, from the root on, each with its last name. A directory's level is its index among them.
 abbrev pub level_in : List OpenDir → ℕ → ℕ
 level_in path parent = position_or_len (λ d. d.node == parent) path
 
@@ -34,7 +35,7 @@ path_behind path level number node = take level path ++ record { node = node.par
 -- A file's octets fit an image, a directory has none.
 abbrev pub HoldsOctets : Kind → Option (List ℕ) → List ℕ → Type 0
 HoldsOctets Dir attribute body = (attribute ≡ None) × (body ≡ [])
-HoldsOctets File attribute body = IfSome attribute (λ a. AreOctets a × (length a ≤ 65536)) × AreOctets body × (length body < 2 ^ 32)
+HoldsOctets File attribute body = IfSome attribute (λ a. AreOctets a × (length a ≤ LONGEST_ATTRIBUTE)) × AreOctets body × (length body < 2 ^ 32)
 
 -- An entry stands in the open directory at this level, behind that directory's last name.
 pub record IsEntry (path : List OpenDir) (level : ℕ) (node : LowerNode) : Type 0 where
@@ -52,7 +53,7 @@ AreEntries path number (node ∷ nodes) =
 abbrev pub IsRoot : LowerNode → Type 0
 IsRoot node = (node.parent ≡ 0) × (node.kind ≡ Dir) × (node.name ≡ []) × (node.attribute ≡ None) × (node.body ≡ [])
 
--- the root, and at most 4,095 entries below it
+-- the root, and the entries below it
 abbrev pub IsLowerTree : List LowerNode → Type 0
 IsLowerTree [] = ⊥
-IsLowerTree (root ∷ entries) = IsRoot root × (length entries ≤ 4095) × AreEntries root_path 1 entries
+IsLowerTree (root ∷ entries) = IsRoot root × (length entries ≤ MOST_ENTRIES) × AreEntries root_path 1 entries

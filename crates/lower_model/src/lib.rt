@@ -3,6 +3,7 @@
 
 mod items;
 mod kind;
+mod limits;
 mod meta_place;
 mod name;
 mod node;
@@ -10,6 +11,7 @@ mod tree;
 
 pub use items::Items;
 pub use kind::Kind;
+pub use limits::{LONGEST_ATTRIBUTE, MOST_ENTRIES};
 pub use meta_place::MetaPlace;
 pub use name::{comes_before, is_name};
 pub use node::{LowerNode, OpenDir};

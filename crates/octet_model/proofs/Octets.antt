@@ -1,5 +1,6 @@
 -- Octets of a list, of its parts, and of lists joined.
-use Rattle.std.proofs.Common.{ℕ, zero, suc, ◌<◌, List, [], ◌∷◌, ◌++◌, get_or, take, drop, arith}
+use Rattle.std.proofs.Common.{◌≡◌, ℕ, zero, suc, ◌<◌, List, [], ◌∷◌, ◌++◌, get_or, take, drop, subst, arith}
+use Rattle.std.specs.Int.{w16, w32, to_be_bytes}
 use Rattle.octet_model.specs.Octets.{AreOctets}
 
 -- at each index of a list of octets, and past its end, there is a number that fits an octet
@@ -28,6 +29,10 @@ pub AreOctets-back : (xs ys : List ℕ) → AreOctets (xs ++ ys) → AreOctets y
 AreOctets-back [] ys fits = fits
 AreOctets-back (x ∷ xs) ys fits = AreOctets-back xs ys fits.1
 
+-- what stands behind a text in octets
+pub AreOctets-rest : (octets text rest : List ℕ) → octets ≡ text ++ rest → AreOctets octets → AreOctets rest
+AreOctets-rest octets text rest e fits = AreOctets-back text rest (subst AreOctets e fits)
+
 -- the first n octets of a list
 pub AreOctets-take : (n : ℕ) (octets : List ℕ) → AreOctets octets → AreOctets (take n octets)
 AreOctets-take zero octets fits = tt
@@ -39,3 +44,10 @@ pub AreOctets-drop : (n : ℕ) (octets : List ℕ) → AreOctets octets → AreO
 AreOctets-drop zero octets fits = fits
 AreOctets-drop (suc n) [] fits = tt
 AreOctets-drop (suc n) (x ∷ xs) fits = AreOctets-drop n xs fits.1
+
+-- the octets of a number, the highest first
+pub AreOctets-be_16 : (n : ℕ) → AreOctets (to_be_bytes w16 n)
+AreOctets-be_16 n = (omega arith, (omega arith, tt))
+
+pub AreOctets-be_32 : (n : ℕ) → AreOctets (to_be_bytes w32 n)
+AreOctets-be_32 n = (omega arith, (omega arith, (omega arith, (omega arith, tt))))

@@ -11,7 +11,7 @@ use Rattle.tree_model.specs.declared.call.TreeReply.{TreeReply}
 use Rattle.tree_model.specs.declared.call.TreeReply.TheVariants as replies
 use Rattle.tree_model.specs.declared.call.TreeRefusal.{TreeRefusal}
 use Rattle.tree_model.specs.declared.call.TreeRefusal.TheVariants.{NameLong, NotFound, NotDir, IsRoot, Exists, NoNodes}
-use Rattle.image_model.specs.Spelling.{image}
+use Rattle.image_model.specs.ImageText.{image}
 use Rattle.session_model.specs.declared.entry.TreeEntry.{TreeEntry}
 use Rattle.session_model.specs.declared.op.Reply.{Reply}
 use Rattle.session_model.specs.declared.op.Reply.TheVariants.{Tree, Memory}

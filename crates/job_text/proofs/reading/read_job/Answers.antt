@@ -1,5 +1,5 @@
 use Rattle.std.proofs.Common.{sym, ◌∙◌, arith}
-use Rattle.job_text.proofs.Jobs.{is_job_text, one_job, not_served, wrong_line}
+use Rattle.job_text.proofs.WholeJob.{is_job_text, one_job, not_served, wrong_line}
 use Rattle.job_text.proofs.reading.read_job.Goals as goal
 
 pub returns-then-is_served_so_far-clause-found : goal.returns-then-is_served_so_far-clause-found

@@ -2,8 +2,8 @@ use Rattle.std.proofs.Common.{◌≡◌, length}
 use Rattle.std.specs.List.{slice_split}
 use Rattle.line_reader.specs.Fields.{each_in}
 use Rattle.line_reader.proofs.Cutting.{is_at}
-use Rattle.line_reader.proofs.Loops.{with_front}
-use Rattle.job_text.specs.Reading.{item_in}
+use Rattle.line_reader.proofs.FieldsInARow.{with_front}
+use Rattle.job_text.specs.JobReading.{item_in}
 use Rattle.job_text.proofs.schedule.items_of.Given as goal
 
 abbrev pub invariant-items : goal.invariant-items

@@ -1,6 +1,6 @@
 use Rattle.std.proofs.lemmas.Result.{err_from_is_err_and}
-use Rattle.job_text.specs.Reading.{op_at, times_at}
-use Rattle.job_text.proofs.Loop.{goes_on, stops, is_done}
+use Rattle.job_text.specs.JobReading.{op_at, times_at}
+use Rattle.job_text.proofs.PartsInARow.{goes_on, stops, is_done}
 use Rattle.job_text.proofs.script.ops_of.Goals as goal
 
 pub returns-in_err-op : goal.returns-in_err-op

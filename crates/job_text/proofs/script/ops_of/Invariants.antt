@@ -1,6 +1,6 @@
 use Rattle.std.proofs.Common.{◌≡◌, ◌-◌}
-use Rattle.job_text.specs.Reading.{op_at, times_at}
-use Rattle.job_text.proofs.Loop.{with_front}
+use Rattle.job_text.specs.JobReading.{op_at, times_at}
+use Rattle.job_text.proofs.PartsInARow.{with_front}
 use Rattle.job_text.proofs.script.ops_of.Given as goal
 
 abbrev pub invariant-loop : goal.invariant-loop

@@ -1,8 +1,8 @@
 use Rattle.std.proofs.Common.{◌∷◌, [], length, ap, ◌∙◌, arith}
 use Rattle.std.proofs.lemmas.List.{length-append}
 use Rattle.std.proofs.lemmas.Result.{err_from_is_err_and}
-use Rattle.job_text.specs.Reading.{script_at, times_at}
-use Rattle.job_text.proofs.Loop.{goes_on, stops, is_done}
+use Rattle.job_text.specs.JobReading.{script_at, times_at}
+use Rattle.job_text.proofs.PartsInARow.{goes_on, stops, is_done}
 use Rattle.job_text.proofs.script.sessions_of.Goals as goal
 
 pub returns-in_err-script-clause-read : goal.returns-in_err-script-clause-read

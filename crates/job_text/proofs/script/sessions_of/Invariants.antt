@@ -1,6 +1,6 @@
 use Rattle.std.proofs.Common.{◌≡◌, ◌-◌, length}
-use Rattle.job_text.specs.Reading.{script_at, times_at}
-use Rattle.job_text.proofs.Loop.{with_front}
+use Rattle.job_text.specs.JobReading.{script_at, times_at}
+use Rattle.job_text.proofs.PartsInARow.{with_front}
 use Rattle.job_text.proofs.script.sessions_of.Given as goal
 
 abbrev pub invariant-loop : goal.invariant-loop

@@ -2,7 +2,7 @@ use Rattle.std.proofs.Common.{sym, ◌∙◌}
 use Rattle.std.proofs.lemmas.Bool.{eqb-true}
 use Rattle.line_reader.specs.Fields.{octets_in}
 use Rattle.line_reader.proofs.Words.{is_some}
-use Rattle.line_reader.proofs.Loops.{octet_goes_on, octet_stops, octets_done}
+use Rattle.line_reader.proofs.FieldsInARow.{octet_goes_on, octet_stops, octets_done}
 use Rattle.line_reader.proofs.name.octets_of.Goals as goal
 
 pub returns-in_default : goal.returns-in_default

@@ -1,10 +1,10 @@
 use Rattle.std.proofs.Common.{◌≡◌, ◌∷◌, [], ◌+◌, ap, sym, ◌∙◌}
 use Rattle.std.proofs.lemmas.Result.{err_from_is_err_and}
 use Rattle.lower_model.specs.LowerTree.{root_path, path_behind}
-use Rattle.image_model.specs.Spelling.{root}
-use Rattle.image_model.specs.Reading.{entries_at}
-use Rattle.lower_image.specs.Gives.{behind}
-use Rattle.lower_image.proofs.Loop.{goes_on, stops, is_done}
+use Rattle.image_model.specs.ImageText.{root}
+use Rattle.image_model.specs.ImageReading.{entries_at}
+use Rattle.lower_image.specs.FieldErrors.{behind}
+use Rattle.lower_image.proofs.EntriesInARow.{goes_on, stops, is_done}
 use Rattle.lower_image.proofs.reading.entries_of.Goals as goal
 
 pub returns-in_err-node : goal.returns-in_err-node

@@ -1,8 +1,8 @@
 use Rattle.std.proofs.Common.{◌≡◌, ◌-◌, ◌+◌, ◌∷◌, []}
 use Rattle.lower_model.specs.LowerTree.{root_path}
-use Rattle.image_model.specs.Spelling.{root}
-use Rattle.image_model.specs.Reading.{entries_at}
-use Rattle.lower_image.specs.Gives.{behind}
+use Rattle.image_model.specs.ImageText.{root}
+use Rattle.image_model.specs.ImageReading.{entries_at}
+use Rattle.lower_image.specs.FieldErrors.{behind}
 use Rattle.lower_image.proofs.reading.entries_of.Given as goal
 
 abbrev pub invariant-loop-number : goal.invariant-loop-number

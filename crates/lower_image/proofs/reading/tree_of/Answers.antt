@@ -1,7 +1,7 @@
 use Rattle.std.proofs.Common.{arith}
-use Rattle.image_model.proofs.Octets.{AreOctets-from_each}
+use Rattle.octet_model.proofs.Octets.{AreOctets-from_each}
 use Rattle.image_model.proofs.Image.{nodes_take}
-use Rattle.image_model.proofs.Places.{left-within}
+use Rattle.image_model.proofs.FaultOffsets.{left-within}
 use Rattle.lower_image.proofs.reading.tree_of.Goals as goal
 
 pub from_vec-requires : goal.from_vec-requires

@@ -1,6 +1,6 @@
 use Rattle.std.proofs.Common.{◌≡◌, ◌++◌, ◌+◌, ◌≤◌, length, drop}
 use Rattle.lower_model.specs.LowerTree.{AreEntries, root_path}
-use Rattle.image_model.specs.Spelling.{entries}
+use Rattle.image_model.specs.ImageText.{entries}
 use Rattle.lower_image.proofs.writing.put_entries.Given as goal
 
 abbrev pub invariant-loop-node : goal.invariant-loop-node

@@ -1,4 +1,4 @@
-use Rattle.image_model.proofs.Laws.{AreOctets-image, one_tree}
+use Rattle.image_model.proofs.Image.{AreOctets-image, one_tree}
 use Rattle.lower_image.proofs.writing.write_image.Goals as goal
 
 pub returns-clause-octets : goal.returns-clause-octets

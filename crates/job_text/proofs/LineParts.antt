@@ -12,7 +12,7 @@ use Rattle.line_reader.proofs.Readers.{IsReader, guard_some}
 use Rattle.line_reader.proofs.Words.{is_other, both}
 use Rattle.line_reader.proofs.Cutting.{cut_parts, cut_again}
 use Rattle.std.proofs.lemmas.Option.{same_Some}
-use Rattle.job_text.specs.Reading.{◌>>=◌, Part, or_wrong, behind, word_at, whole_at, field_at, times_at}
+use Rattle.job_text.specs.JobReading.{◌>>=◌, Part, or_wrong, behind, word_at, whole_at, field_at, times_at}
 
 pub bind_ok : {A B : Type 0} (r : Result A ℕ) (f : A → Result B ℕ) (y : B) → (r >>= f) ≡ Ok y → (x : A) × (r ≡ Ok x) × (f x ≡ Ok y)
 bind_ok (Ok x) f y e = (x, refl, e)

@@ -8,10 +8,10 @@ use Rattle.octet_model.specs.Octets.{AreOctets}
 use Rattle.lower_model.specs.LowerTree.{IsLowerTree}
 use Rattle.lower_model.specs.declared.node.LowerNode.{LowerNode}
 use Rattle.image_model.specs.declared.fault.ImageFault.{ImageFault}
-use Rattle.image_model.specs.Spelling.{image}
-use Rattle.image_model.specs.Reading.{reading}
-use Rattle.image_model.proofs.Octets.{AreOctets-take}
-use Rattle.image_model.proofs.Laws.{reading_takes, reading_again}
+use Rattle.image_model.specs.ImageText.{image}
+use Rattle.image_model.specs.ImageReading.{reading}
+use Rattle.octet_model.proofs.Octets.{AreOctets-take}
+use Rattle.image_model.proofs.Image.{reading_takes, reading_again}
 use Rattle.text_model.specs.Line.{line, number, hex}
 use Rattle.session_model.specs.declared.op.Op.{Op}
 use Rattle.session_model.specs.declared.op.Op.TheVariants.{Mkdir, List as ListOp}
@@ -26,9 +26,9 @@ use Rattle.line_reader.proofs.NumberReader.{number_reader}
 use Rattle.line_reader.proofs.HexReader.{sized_hex_reader}
 use Rattle.job_text.specs.declared.settings.Keys.{Keys}
 use Rattle.job_text.specs.declared.settings.Making.{Making}
-use Rattle.job_text.specs.Reading.{◌>>=◌, Part, field_at, times_at, passphrase_in, coding_in, place_in, keys_of, keys_at, making_at, behind_end, image_or_fault, sized_image_at, image_at, count_in, op_in, op_at, script_at, scripts_at, schedule_at}
-use Rattle.job_text.proofs.Parts.{bind_ok, ok_is, ended, HasNoEnd, IsPart, AreOctets-rest, field_part, read_line, line_part, times_part}
-use Rattle.job_text.proofs.Values.{hex_no_end, number_without, passphrase_reader, IsAny, coding_reader, place_reader, IsWithin, count_reader, op_text, op_reader, op_no_end, items_text, items_reader, items_no_end}
+use Rattle.job_text.specs.JobReading.{◌>>=◌, Part, field_at, times_at, passphrase_in, coding_in, place_in, keys_of, keys_at, making_at, behind_end, image_or_fault, sized_image_at, image_at, count_in, op_in, op_at, script_at, scripts_at, schedule_at}
+use Rattle.job_text.proofs.LineParts.{bind_ok, ok_is, ended, HasNoEnd, IsPart, AreOctets-rest, field_part, read_line, line_part, times_part}
+use Rattle.job_text.proofs.FieldReaders.{hex_no_end, number_without, passphrase_reader, IsAny, coding_reader, place_reader, IsWithin, count_reader, op_text, op_reader, op_no_end, items_text, items_reader, items_no_end}
 
 -- ---- scripts
 

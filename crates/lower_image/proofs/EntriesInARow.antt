@@ -4,10 +4,11 @@ use Rattle.std.proofs.lemmas.List.{append-nil}
 use Rattle.lower_model.specs.declared.node.LowerNode.{LowerNode}
 use Rattle.lower_model.specs.declared.node.OpenDir.{OpenDir}
 use Rattle.lower_model.specs.LowerTree.{path_behind}
-use Rattle.image_model.specs.Reading.{◌>>=◌, Field, entry_at, entries_at}
+use Rattle.answer_model.specs.Answer.{◌>>=◌, FailsAs}
+use Rattle.image_model.specs.ImageReading.{Field, entry_at, entries_at}
 use Rattle.lower_image.specs.declared.error.FieldError.{FieldError}
 use Rattle.lower_image.specs.declared.error.FieldError.TheVariants.{Fault, Memory}
-use Rattle.lower_image.specs.Gives.{Fails, behind}
+use Rattle.lower_image.specs.FieldErrors.{wrong_field, behind}
 
 regroup : (front : List LowerNode) (n : LowerNode) (read : Field (List LowerNode)) → behind front (read >>= λ x. Ok (n ∷ x.0, x.1)) ≡ behind (front ++ n ∷ []) read
 regroup front n (Ok x) = ap (λ (ns : List LowerNode). Ok (ns, x.1)) (simp append_assoc)
@@ -24,8 +25,8 @@ goes_on front count i number path octets n level after total lt h so_far =
     rw (k, h) (regroup front n (entries_at (count - (i + 1)) (path_behind path level number n) (number + 1) after)) in
     sym one ∙ so_far
 
-pub stops : (e : FieldError) (front : List LowerNode) (count i number : ℕ) (path : List OpenDir) (octets : List ℕ) (total : Field (List LowerNode)) → i < count → Fails e (entry_at path octets)
-    → behind front (entries_at (count - i) path number octets) ≡ total → Fails e total
+pub stops : (e : FieldError) (front : List LowerNode) (count i number : ℕ) (path : List OpenDir) (octets : List ℕ) (total : Field (List LowerNode)) → i < count → FailsAs (wrong_field e) (Unit {0}) (entry_at path octets)
+    → behind front (entries_at (count - i) path number octets) ≡ total → FailsAs (wrong_field e) (Unit {0}) total
 unfolding entries_at
 stops Memory front count i number path octets total lt h so_far = tt
 stops (Fault left kind) front count i number path octets total lt h so_far =

@@ -10,8 +10,9 @@ use Rattle.lower_model.specs.declared.node.OpenDir.{OpenDir}
 use Rattle.lower_model.specs.Name.{is_name}
 use Rattle.lower_model.specs.LowerTree.{comes_before, path_behind, root_path}
 use Rattle.image_model.specs.declared.fault.ImageKind.TheVariants as kinds
-use Rattle.image_model.specs.Spelling.{magic, root}
-use Rattle.image_model.specs.Reading.{FieldFault, Field, ◌>>=◌, wrong, number_at, octets_at, level_at, kind_at, name_at, attribute_at, body_at, content_at, Content, Entry, entry_in, entry_at, entries_at, ends, counted_at, nodes_at}
+use Rattle.image_model.specs.ImageText.{magic, root}
+use Rattle.answer_model.specs.Answer.{◌>>=◌}
+use Rattle.image_model.specs.ImageReading.{FieldFault, Field, wrong, number_at, octets_at, level_at, kind_at, name_at, attribute_at, body_at, file_octets_at, FileOctets, Entry, entry_in, entry_at, entries_at, whole_tree, counted_at, nodes_at}
 
 -- At most so many octets are behind what was read, or left from the wrong field on.
 abbrev LeavesAtMost : {A : Type 0} → (A → ℕ) → ℕ → Result A FieldFault → Type 0
@@ -83,20 +84,20 @@ body_leaves : (octets : List ℕ) → LeavesAtMost rest_of (length octets) (body
 unfolding body_at
 body_leaves octets = next rest_of rest_of (length octets) (number_at w32 octets) (λ n. octets_at n.0 n.1) (number_leaves w32 octets) (λ n le. weaker rest_of (length n.1) (length octets) (octets_at n.0 n.1) le (octets_leave n.0 n.1))
 
-content_leaves : (kind : Kind) (octets : List ℕ) → LeavesAtMost rest_of (length octets) (content_at kind octets)
-unfolding content_at
-content_leaves Dir octets = omega arith
-content_leaves File octets =
+file_octets_leave : (kind : Kind) (octets : List ℕ) → LeavesAtMost rest_of (length octets) (file_octets_at kind octets)
+unfolding file_octets_at
+file_octets_leave Dir octets = omega arith
+file_octets_leave File octets =
     next rest_of rest_of (length octets) (attribute_at octets) (λ a. body_at a.1 >>= λ b. Ok (record { attribute = a.0; body = b.0 }, b.1)) (attribute_leaves octets)
     (λ a le. next rest_of rest_of (length octets) (body_at a.1) (λ b. Ok (record { attribute = a.0; body = b.0 }, b.1)) (weaker rest_of (length a.1) (length octets) (body_at a.1) le (body_leaves a.1)) (λ b le. le))
 
 entry_in_leaves : (level : ℕ) (parent : Option OpenDir) (octets : List ℕ) → LeavesAtMost rest_of (length octets) (entry_in level parent octets)
 entry_in_leaves level None octets = omega arith
 entry_in_leaves level (Some parent) octets =
-    let made : (kind : Kind) (name : List ℕ) (c : Content × List ℕ) → Result (Entry × List ℕ) FieldFault = λ kind name c. Ok (record { node = record { parent = parent.node; kind = kind; name = name; attribute = c.0.attribute; body = c.0.body }; level = level }, c.1) in
-    next rest_of rest_of (length octets) (kind_at octets) (λ kind. name_at parent.last kind.1 >>= λ name. content_at kind.0 name.1 >>= λ c. made kind.0 name.0 c) (kind_leaves octets)
-    (λ kind le. next rest_of rest_of (length octets) (name_at parent.last kind.1) (λ name. content_at kind.0 name.1 >>= λ c. made kind.0 name.0 c) (weaker rest_of (length kind.1) (length octets) (name_at parent.last kind.1) le (name_leaves parent.last kind.1))
-    (λ name le. next rest_of rest_of (length octets) (content_at kind.0 name.1) (λ c. made kind.0 name.0 c) (weaker rest_of (length name.1) (length octets) (content_at kind.0 name.1) le (content_leaves kind.0 name.1)) (λ c le. le)))
+    let made : (kind : Kind) (name : List ℕ) (c : FileOctets × List ℕ) → Result (Entry × List ℕ) FieldFault = λ kind name c. Ok (record { node = record { parent = parent.node; kind = kind; name = name; attribute = c.0.attribute; body = c.0.body }; level = level }, c.1) in
+    next rest_of rest_of (length octets) (kind_at octets) (λ kind. name_at parent.last kind.1 >>= λ name. file_octets_at kind.0 name.1 >>= λ c. made kind.0 name.0 c) (kind_leaves octets)
+    (λ kind le. next rest_of rest_of (length octets) (name_at parent.last kind.1) (λ name. file_octets_at kind.0 name.1 >>= λ c. made kind.0 name.0 c) (weaker rest_of (length kind.1) (length octets) (name_at parent.last kind.1) le (name_leaves parent.last kind.1))
+    (λ name le. next rest_of rest_of (length octets) (file_octets_at kind.0 name.1) (λ c. made kind.0 name.0 c) (weaker rest_of (length name.1) (length octets) (file_octets_at kind.0 name.1) le (file_octets_leave kind.0 name.1)) (λ c le. le)))
 
 entry_leaves : (path : List OpenDir) (octets : List ℕ) → LeavesAtMost rest_of (length octets) (entry_at path octets)
 unfolding entry_at
@@ -116,9 +117,9 @@ counted_leaves : (octets : List ℕ) → LeavesAtMost nothing_of (length octets)
 unfolding counted_at
 counted_leaves octets =
     let all : ℕ × List ℕ → Field (List LowerNode) = λ n. entries_at n.0 root_path 1 n.1 in
-    next rest_of nothing_of (length octets) (number_at w32 octets) (λ n. cond (leb n.0 4095) (all n >>= ends) (wrong kinds.TooMany octets)) (number_leaves w32 octets)
-    (λ n le. either nothing_of (length octets) (leb n.0 4095) (all n >>= ends) (wrong kinds.TooMany octets)
-    (next rest_of nothing_of (length octets) (all n) ends (weaker rest_of (length n.1) (length octets) (all n) le (entries_leave n.0 root_path 1 n.1))
+    next rest_of nothing_of (length octets) (number_at w32 octets) (λ n. cond (leb n.0 4095) (all n >>= whole_tree) (wrong kinds.TooMany octets)) (number_leaves w32 octets)
+    (λ n le. either nothing_of (length octets) (leb n.0 4095) (all n >>= whole_tree) (wrong kinds.TooMany octets)
+    (next rest_of nothing_of (length octets) (all n) whole_tree (weaker rest_of (length n.1) (length octets) (all n) le (entries_leave n.0 root_path 1 n.1))
     (λ x le. either nothing_of (length octets) (eqb (length x.1) 0) (Ok (root ∷ x.0)) (wrong kinds.Extra x.1) (omega arith) le)) (omega arith))
 
 nodes_leave : (octets : List ℕ) → LeavesAtMost nothing_of (length octets) (nodes_at octets)

@@ -26,13 +26,13 @@ attribute None = 0 ∷ []
 attribute (Some octets) = 1 ∷ sized octets
 
 -- what stands behind the name: nothing for a directory, the attribute and the body for a file
-abbrev pub content : Kind → Option (List ℕ) → List ℕ → List ℕ
-content Dir a body = []
-content File a body = attribute a ++ sized body
+abbrev pub file_octets : Kind → Option (List ℕ) → List ℕ → List ℕ
+file_octets Dir a body = []
+file_octets File a body = attribute a ++ sized body
 
 -- level, kind, length of the name, name, and a file's octets; the level is 1 in the root
 abbrev pub entry : ℕ → LowerNode → List ℕ
-entry level node = to_be_bytes w16 (level + 1) ++ (kind_code node.kind ∷ (length node.name ∷ (node.name ++ content node.kind node.attribute node.body)))
+entry level node = to_be_bytes w16 (level + 1) ++ (kind_code node.kind ∷ (length node.name ∷ (node.name ++ file_octets node.kind node.attribute node.body)))
 
 -- one after another, the first of them with this number
 abbrev pub entries : List OpenDir → ℕ → List LowerNode → List ℕ

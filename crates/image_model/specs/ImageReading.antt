@@ -1,7 +1,9 @@
 -- Reading an image from left to right, with the first fault that is met.
-use Rattle.std.specs.Prelude.{ℕ, zero, suc, ◌≡◌, ◌+◌, ◌-◌, ◌≤◌, List, [], ◌∷◌, length, take, drop, Option, Some, None, Result, Ok, Err, nat_eq, nat_lt, nat_le, ◌==◌, ◌&&◌, if◌then◌else◌, slice_get}
+use Rattle.std.specs.Prelude.{ℕ, zero, suc, ◌+◌, ◌-◌, ◌≤◌, List, [], ◌∷◌, length, take, drop, Option, Some, None, IfSome, Result, Ok, Err, nat_eq, nat_lt, nat_le, ◌==◌, ◌&&◌, if◌then◌else◌, slice_get}
 use Rattle.std.specs.Int.{Width, w16, w32, byte_len, from_be_bytes}
 use Rattle.std.specs.List.{starts_with}
+use Rattle.answer_model.specs.Answer.{◌>>=◌}
+use Rattle.lower_model.specs.declared.limits.TheConstants.{MOST_ENTRIES, LONGEST_ATTRIBUTE}
 use Rattle.lower_model.specs.declared.kind.Kind.{Kind}
 use Rattle.lower_model.specs.declared.kind.Kind.TheVariants.{Dir, File}
 use Rattle.lower_model.specs.declared.node.LowerNode.{LowerNode}
@@ -13,7 +15,7 @@ use Rattle.image_model.specs.declared.fault.ImageKind.TheVariants as kinds
 use Rattle.image_model.specs.declared.fault.ImageFault.{ImageFault}
 use Rattle.image_model.specs.declared.fault.ImageError.{ImageError}
 use Rattle.image_model.specs.declared.fault.ImageError.TheVariants as errors
-use Rattle.image_model.specs.Spelling.{magic, root}
+use Rattle.image_model.specs.ImageText.{magic, root}
 
 -- A wrong field: how many octets are left from its first one on, and what is wrong.
 pub record FieldFault : Type 0 where
@@ -23,11 +25,6 @@ pub record FieldFault : Type 0 where
 -- A field is read as a value and the octets behind it.
 abbrev pub Field : Type 0 → Type 0
 Field A = Result (A × List ℕ) FieldFault
-
-infixl 10 ◌>>=◌
-abbrev pub ◌>>=◌ : {A B : Type 0} → Result A FieldFault → (A → Result B FieldFault) → Result B FieldFault
-(Ok x) >>= f = f x
-(Err e) >>= f = Err e
 
 -- the field that begins here is wrong
 abbrev pub wrong : {A : Type 0} → ImageKind → List ℕ → Result A FieldFault
@@ -40,7 +37,7 @@ number_at w octets = if nat_lt (length octets) (byte_len w) then wrong kinds.Cut
 abbrev pub octets_at : ℕ → List ℕ → Field (List ℕ)
 octets_at n octets = if nat_lt (length octets) n then wrong kinds.Cut octets else Ok (take n octets, drop n octets)
 
--- The level is 1 in the root: one more than the place of the entry's directory among those that are open.
+-- The level is 1 in the root: one more than the index of the entry's directory among those that are open.
 unfoldable pub level_at : ℕ → List ℕ → Field ℕ
 level_at depth octets = do
   n ← number_at w16 octets
@@ -67,7 +64,7 @@ attribute_at [] = wrong kinds.Cut []
 attribute_at (zero ∷ rest) = Ok (None, rest)
 attribute_at (suc zero ∷ rest) = do
   n ← number_at w32 rest
-  if nat_le n.0 65536 then (octets_at n.0 n.1 >>= λ a. Ok (Some a.0, a.1)) else wrong kinds.AttributeLength rest
+  if nat_le n.0 LONGEST_ATTRIBUTE then (octets_at n.0 n.1 >>= λ a. Ok (Some a.0, a.1)) else wrong kinds.AttributeLength rest
 attribute_at (suc (suc b) ∷ rest) = wrong kinds.Flag (suc (suc b) ∷ rest)
 
 -- the octets with their length
@@ -76,19 +73,19 @@ body_at octets = do
   n ← number_at w32 octets
   octets_at n.0 n.1
 
--- what stands behind the name
-pub record Content : Type 0 where
+-- what stands behind the name of a file
+pub record FileOctets : Type 0 where
   pub attribute : Option (List ℕ)
   pub body : List ℕ
 
-unfoldable pub content_at : Kind → List ℕ → Field Content
-content_at Dir octets = Ok (record { attribute = None; body = [] }, octets)
-content_at File octets = do
+unfoldable pub file_octets_at : Kind → List ℕ → Field FileOctets
+file_octets_at Dir octets = Ok (record { attribute = None; body = [] }, octets)
+file_octets_at File octets = do
   a ← attribute_at octets
   b ← body_at a.1
   Ok (record { attribute = a.0; body = b.0 }, b.1)
 
--- An entry, and the place of its directory among those that are open.
+-- An entry, and the index of its directory among those that are open.
 pub record Entry : Type 0 where
   pub node : LowerNode
   pub level : ℕ
@@ -99,8 +96,8 @@ entry_in level None octets = wrong kinds.Level octets
 entry_in level (Some parent) octets = do
   kind ← kind_at octets
   name ← name_at parent.last kind.1
-  content ← content_at kind.0 name.1
-  Ok (record { node = record { parent = parent.node; kind = kind.0; name = name.0; attribute = content.0.attribute; body = content.0.body }; level = level }, content.1)
+  held ← file_octets_at kind.0 name.1
+  Ok (record { node = record { parent = parent.node; kind = kind.0; name = name.0; attribute = held.0.attribute; body = held.0.body }; level = level }, held.1)
 
 unfoldable pub entry_at : List OpenDir → List ℕ → Field Entry
 entry_at path octets = do
@@ -116,35 +113,33 @@ entries_at (suc count) path number octets = do
   Ok (first.0.node ∷ others.0, others.1)
 
 -- nothing follows the last entry
-abbrev pub ends : List LowerNode × List ℕ → Result (List LowerNode) FieldFault
-ends x = if length x.1 == 0 then Ok (root ∷ x.0) else wrong kinds.Extra x.1
+abbrev pub whole_tree : List LowerNode × List ℕ → Result (List LowerNode) FieldFault
+whole_tree x = if length x.1 == 0 then Ok (root ∷ x.0) else wrong kinds.Extra x.1
 
--- a count of at most 4,095 and so many entries, then nothing
+-- a count and so many entries, then nothing
 unfoldable pub counted_at : List ℕ → Result (List LowerNode) FieldFault
 counted_at octets = do
   count ← number_at w32 octets
-  if nat_le count.0 4095 then (entries_at count.0 root_path 1 count.1 >>= ends) else wrong kinds.TooMany octets
+  if nat_le count.0 MOST_ENTRIES then (entries_at count.0 root_path 1 count.1 >>= whole_tree) else wrong kinds.TooMany octets
 
 -- the magic, and what is counted
 unfoldable pub nodes_at : List ℕ → Result (List LowerNode) FieldFault
 nodes_at octets = if starts_with nat_eq octets magic then counted_at (drop 8 octets) else wrong kinds.Magic octets
 
--- The place of a fault is the number of octets before the wrong field.
-abbrev pub placed : {A : Type 0} → ℕ → Result A FieldFault → Result A ImageFault
-placed total (Ok x) = Ok x
-placed total (Err f) = Err (record { place = total - f.left; kind = f.kind })
+-- The offset of a fault is the number of octets before the wrong field.
+abbrev pub with_offset : {A : Type 0} → ℕ → Result A FieldFault → Result A ImageFault
+with_offset total (Ok x) = Ok x
+with_offset total (Err f) = Err (record { offset = total - f.left; kind = f.kind })
 
 -- the nodes of the lower tree that has this image, or the first fault
 abbrev pub reading : List ℕ → Result (List LowerNode) ImageFault
-reading octets = placed (length octets) (nodes_at octets)
+reading octets = with_offset (length octets) (nodes_at octets)
 
--- What was returned is what the reading gives, unless memory ran out.
-abbrev pub GivesOrMemory : Result (List LowerNode) ImageError → Result (List LowerNode) ImageFault → Type 0
-GivesOrMemory (Ok nodes) read = read ≡ Ok nodes
-GivesOrMemory (Err (errors.Fault f)) read = read ≡ Err f
-GivesOrMemory (Err errors.Memory) read = Unit {0}
+-- the fault that an error tells; none for want of memory
+abbrev pub fault_of : ImageError → Option ImageFault
+fault_of (errors.Fault fault) = Some fault
+fault_of errors.Memory = None
 
--- The place of a fault is one of the image's octets, or the end where a field is cut.
-abbrev pub IsPlaceWithin : List ℕ → ImageError → Type 0
-IsPlaceWithin octets (errors.Fault f) = f.place ≤ length octets
-IsPlaceWithin octets errors.Memory = Unit {0}
+-- A fault stands at one of the image's octets, or at the end where a field is cut.
+abbrev pub HasOffsetWithin : List ℕ → ImageError → Type 0
+HasOffsetWithin octets error = IfSome (fault_of error) (λ fault. fault.offset ≤ length octets)

@@ -1,10 +1,10 @@
--- Three images, octet by octet, and the places of some faults.
+-- Three images, octet by octet, and the offsets of some faults.
 use Rattle.std.proofs.Common.{◌≡◌, ℕ, ◌++◌, List, [], ◌∷◌, None, Ok, Err, refl}
 use Rattle.lower_model.specs.declared.kind.Kind.TheVariants.{Dir, File}
 use Rattle.lower_model.specs.declared.node.LowerNode.{LowerNode}
 use Rattle.image_model.specs.declared.fault.ImageKind.TheVariants as kinds
-use Rattle.image_model.specs.Spelling.{image, magic, root}
-use Rattle.image_model.specs.Reading.{reading, nodes_at, counted_at, entries_at, entry_at, level_at, kind_at, name_at, content_at, attribute_at, body_at}
+use Rattle.image_model.specs.ImageText.{image, magic, root}
+use Rattle.image_model.specs.ImageReading.{reading, nodes_at, counted_at, entries_at, entry_at, level_at, kind_at, name_at, file_octets_at, attribute_at, body_at}
 
 abbrev directory_a : LowerNode
 directory_a = record { parent = 0; kind = Dir; name = 0x61 ∷ []; attribute = None; body = [] }
@@ -35,21 +35,21 @@ unfolding nodes_at counted_at entries_at
 empty_reading = refl
 
 reading_of_a : reading octets_of_a ≡ Ok (root ∷ directory_a ∷ [])
-unfolding nodes_at counted_at entries_at entry_at level_at kind_at name_at content_at
+unfolding nodes_at counted_at entries_at entry_at level_at kind_at name_at file_octets_at
 reading_of_a = refl
 
 reading_of_f : reading octets_of_f ≡ Ok (root ∷ file_f ∷ [])
-unfolding nodes_at counted_at entries_at entry_at level_at kind_at name_at content_at attribute_at body_at
+unfolding nodes_at counted_at entries_at entry_at level_at kind_at name_at file_octets_at attribute_at body_at
 reading_of_f = refl
 
-no_magic : reading [] ≡ Err (record { place = 0; kind = kinds.Magic })
+no_magic : reading [] ≡ Err (record { offset = 0; kind = kinds.Magic })
 unfolding nodes_at
 no_magic = refl
 
-cut_count : reading (magic ++ 0 ∷ []) ≡ Err (record { place = 8; kind = kinds.Cut })
+cut_count : reading (magic ++ 0 ∷ []) ≡ Err (record { offset = 8; kind = kinds.Cut })
 unfolding nodes_at counted_at
 cut_count = refl
 
-octets_behind : reading (octets_of_a ++ 0 ∷ []) ≡ Err (record { place = 17; kind = kinds.Extra })
-unfolding nodes_at counted_at entries_at entry_at level_at kind_at name_at content_at
+octets_behind : reading (octets_of_a ++ 0 ∷ []) ≡ Err (record { offset = 17; kind = kinds.Extra })
+unfolding nodes_at counted_at entries_at entry_at level_at kind_at name_at file_octets_at
 octets_behind = refl

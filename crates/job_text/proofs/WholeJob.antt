@@ -5,7 +5,7 @@ use Rattle.std.specs.List.{flat_map}
 use Rattle.std.proofs.lemmas.Bool.{and_parts, eqb-true}
 use Rattle.std.proofs.lemmas.List.{nil_from_length, length-append}
 use Rattle.octet_model.specs.Octets.{AreOctets}
-use Rattle.image_model.specs.Spelling.{image}
+use Rattle.image_model.specs.ImageText.{image}
 use Rattle.text_model.specs.Line.{line, number, hex}
 use Rattle.session_model.specs.declared.op.Op.{Op}
 use Rattle.job_model.specs.declared.job.Job.{Job}
@@ -16,9 +16,9 @@ use Rattle.job_model.specs.JobText.{IsJobText, settings_text, coding_word, place
 use Rattle.job_text.specs.declared.settings.Keys.{Keys}
 use Rattle.job_text.specs.declared.settings.Making.{Making}
 use Rattle.job_text.specs.Outcome.{IsNoJob}
-use Rattle.job_text.specs.Reading.{whole_at, keys_at, making_at, image_at, scripts_at, schedule_at, end_at, Work, work_at, job_of, job_at, is_plain, is_served_so_far}
-use Rattle.job_text.proofs.Parts.{bind_ok, ok_is, ended, AreOctets-rest, whole_found, whole_again}
-use Rattle.job_text.proofs.Laws.{IsImage, image_part, AreCounted, counted_text, scripts_part, schedule_part, AreKeys, keys_text, keys_part, IsMaking, making_text, making_part, joined, apart}
+use Rattle.job_text.specs.JobReading.{whole_at, keys_at, making_at, image_at, scripts_at, schedule_at, end_at, Work, work_at, job_of, job_at, is_plain, is_served_so_far}
+use Rattle.job_text.proofs.LineParts.{bind_ok, ok_is, ended, AreOctets-rest, whole_found, whole_again}
+use Rattle.job_text.proofs.JobParts.{IsImage, image_part, AreCounted, counted_text, scripts_part, schedule_part, AreKeys, keys_text, keys_part, IsMaking, making_text, making_part, joined, apart}
 
 -- ---- what stands behind the settings
 

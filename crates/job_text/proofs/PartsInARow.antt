@@ -3,7 +3,7 @@ use Rattle.std.proofs.Common.{◌≡◌, ℕ, suc, ◌-◌, ◌+◌, ◌≤◌, 
 use Rattle.std.proofs.lemmas.List.{append-nil}
 use Rattle.job_text.specs.declared.fault.LineError.{LineError}
 use Rattle.job_text.specs.declared.fault.LineError.TheVariants as errors
-use Rattle.job_text.specs.Reading.{◌>>=◌, Part, Fails, times_at}
+use Rattle.job_text.specs.JobReading.{◌>>=◌, Part, Fails, times_at}
 
 abbrev part_of : {A : Type 0} → A → List ℕ → Part A
 part_of value rest = Ok (value, rest)

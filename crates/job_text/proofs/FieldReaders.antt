@@ -28,8 +28,8 @@ use Rattle.line_reader.proofs.HexReader.{hex_reader, hex_digits}
 use Rattle.line_reader.proofs.NameReader.{AreOctets-name, name_words, chosen}
 use Rattle.line_reader.proofs.PathReader.{AreSome, fields_reader, path_reader}
 use Rattle.std.specs.Char.{is_ascii_digit}
-use Rattle.job_text.specs.Reading.{behind, passphrase_if, passphrase_in, coding_in, place_in, number_if, count_in, op_behind, op_in, item_if, item_in, items_if, items_in}
-use Rattle.job_text.proofs.Parts.{HasNoEnd, behind_is}
+use Rattle.job_text.specs.JobReading.{behind, passphrase_if, passphrase_in, coding_in, place_in, number_if, count_in, op_behind, op_in, item_if, item_in, items_if, items_in}
+use Rattle.job_text.proofs.LineParts.{HasNoEnd, behind_is}
 
 -- ---- none of them holds a line end
 
