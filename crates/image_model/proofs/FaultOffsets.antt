@@ -12,7 +12,7 @@ use Rattle.lower_model.specs.LowerTree.{comes_before, path_behind, root_path}
 use Rattle.image_model.specs.declared.fault.ImageKind.TheVariants as kinds
 use Rattle.image_model.specs.ImageText.{magic, root}
 use Rattle.answer_model.specs.Answer.{◌>>=◌}
-use Rattle.image_model.specs.ImageReading.{FieldFault, Field, wrong, number_at, octets_at, level_at, kind_at, name_at, attribute_at, body_at, file_octets_at, FileOctets, Entry, entry_in, entry_at, entries_at, whole_tree, counted_at, nodes_at}
+use Rattle.image_model.specs.ImageReading.{FieldFault, Field, wrong, number_at, octets_at, level_at, kind_at, name_at, attribute_at, body_at, file_octets_at, FileOctets, Entry, entry_in, entry_at, entries_at, whole_tree, counted_nodes_at, nodes_at}
 
 -- At most so many octets are behind what was read, or left from the wrong field on.
 abbrev LeavesAtMost : {A : Type 0} → (A → ℕ) → ℕ → Result A FieldFault → Type 0
@@ -113,8 +113,8 @@ entries_leave (suc count) path number octets =
     next rest_of rest_of (length octets) (entry_at path octets) (λ f. others f >>= λ o. Ok (f.0.node ∷ o.0, o.1)) (entry_leaves path octets)
     (λ f le. next rest_of rest_of (length octets) (others f) (λ o. Ok (f.0.node ∷ o.0, o.1)) (weaker rest_of (length f.1) (length octets) (others f) le (entries_leave count (path_behind path f.0.level number f.0.node) (number + 1) f.1)) (λ o le. le))
 
-counted_leaves : (octets : List ℕ) → LeavesAtMost nothing_of (length octets) (counted_at octets)
-unfolding counted_at
+counted_leaves : (octets : List ℕ) → LeavesAtMost nothing_of (length octets) (counted_nodes_at octets)
+unfolding counted_nodes_at
 counted_leaves octets =
     let all : ℕ × List ℕ → Field (List LowerNode) = λ n. entries_at n.0 root_path 1 n.1 in
     next rest_of nothing_of (length octets) (number_at w32 octets) (λ n. cond (leb n.0 4095) (all n >>= whole_tree) (wrong kinds.TooMany octets)) (number_leaves w32 octets)
@@ -125,8 +125,8 @@ counted_leaves octets =
 nodes_leave : (octets : List ℕ) → LeavesAtMost nothing_of (length octets) (nodes_at octets)
 unfolding nodes_at
 nodes_leave octets =
-    either nothing_of (length octets) (starts_with nat_eq octets magic) (counted_at (drop 8 octets)) (wrong kinds.Magic octets)
-    (weaker nothing_of (length (drop 8 octets)) (length octets) (counted_at (drop 8 octets)) (omega (arith, length-drop 8 octets)) (counted_leaves (drop 8 octets))) (omega arith)
+    either nothing_of (length octets) (starts_with nat_eq octets magic) (counted_nodes_at (drop 8 octets)) (wrong kinds.Magic octets)
+    (weaker nothing_of (length (drop 8 octets)) (length octets) (counted_nodes_at (drop 8 octets)) (omega (arith, length-drop 8 octets)) (counted_leaves (drop 8 octets))) (omega arith)
 
 -- the wrong field lies within the octets
 pub left-within : (octets : List ℕ) (f : FieldFault) → nodes_at octets ≡ Err f → f.left ≤ length octets

@@ -14,7 +14,7 @@ use Rattle.lower_model.specs.LowerTree.{level_in, path_behind, root_path, HoldsO
 use Rattle.image_model.specs.declared.fault.ImageFault.{ImageFault}
 use Rattle.image_model.specs.declared.fault.ImageKind.TheVariants as kinds
 use Rattle.image_model.specs.ImageText.{kind_code, attribute, sized, file_octets, entry, entries, image, magic, root}
-use Rattle.image_model.specs.ImageReading.{FieldFault, wrong, number_at, entries_at, whole_tree, counted_at, nodes_at, with_offset, reading}
+use Rattle.image_model.specs.ImageReading.{FieldFault, wrong, number_at, entries_at, whole_tree, counted_nodes_at, nodes_at, with_offset, reading}
 use Rattle.octet_model.proofs.Octets.{AreOctets-append, AreOctets-drop, AreOctets-be_16, AreOctets-be_32}
 use Rattle.lower_model.proofs.NameOctets.{AreOctets-name, length-name}
 use Rattle.answer_model.specs.Answer.{◌>>=◌}
@@ -31,8 +31,8 @@ counted_is : (octets : List ℕ) (n : ℕ) (nodes : List LowerNode) (rest : List
 counted_is octets n nodes rest t nothing len =
     t.parts ∙ ap (λ (r : List ℕ). (to_be_bytes w32 n ++ entries root_path 1 nodes) ++ r) nothing ∙ append-nil (to_be_bytes w32 n ++ entries root_path 1 nodes) ∙ ap (λ (k : ℕ). to_be_bytes w32 k ++ entries root_path 1 nodes) (sym len)
 
-counted_takes : (octets : List ℕ) (nodes : List LowerNode) → AreOctets octets → counted_at octets ≡ Ok nodes → IsLowerTree nodes × (octets ≡ counted nodes)
-unfolding counted_at
+counted_takes : (octets : List ℕ) (nodes : List LowerNode) → AreOctets octets → counted_nodes_at octets ≡ Ok nodes → IsLowerTree nodes × (octets ≡ counted nodes)
+unfolding counted_nodes_at
 counted_takes octets nodes fits e =
     let a = bind_ok (number_at w32 octets) (λ n. cond (leb n.0 4095) (entries_at n.0 root_path 1 n.1 >>= whole_tree) (wrong kinds.TooMany octets)) nodes e in
     let g = guard (leb a.0.0 4095) (record { left = length octets; kind = kinds.TooMany }) (entries_at a.0.0 root_path 1 a.0.1 >>= whole_tree) nodes a.2 in
@@ -59,14 +59,14 @@ image_from octets (r ∷ nodes) e h = (h.0, e ∙ ap (λ (t : List ℕ). magic +
 pub nodes_take : (octets : List ℕ) (nodes : List LowerNode) → AreOctets octets → nodes_at octets ≡ Ok nodes → IsLowerTree nodes × (octets ≡ image nodes)
 unfolding nodes_at
 nodes_take octets nodes fits e =
-    let g = guard (starts_with nat_eq octets magic) (record { left = length octets; kind = kinds.Magic }) (counted_at (drop 8 octets)) nodes e in
+    let g = guard (starts_with nat_eq octets magic) (record { left = length octets; kind = kinds.Magic }) (counted_nodes_at (drop 8 octets)) nodes e in
     image_from octets nodes (starts octets g.0) (counted_takes (drop 8 octets) nodes (AreOctets-drop 8 octets fits) g.1)
 
 root_is : (r : LowerNode) → IsRoot r → r ≡ root
 root_is r h i = record { parent = h.0 i; kind = h.1 i; name = h.2 i; attribute = h.3 i; body = h.4 i }
 
-counted_again : (r : LowerNode) (nodes : List LowerNode) → IsLowerTree (r ∷ nodes) → counted_at (counted (r ∷ nodes)) ≡ Ok (r ∷ nodes)
-unfolding counted_at
+counted_again : (r : LowerNode) (nodes : List LowerNode) → IsLowerTree (r ∷ nodes) → counted_nodes_at (counted (r ∷ nodes)) ≡ Ok (r ∷ nodes)
+unfolding counted_nodes_at
 counted_again r nodes h =
     let all : entries_at (length nodes) root_path 1 (entries root_path 1 nodes) ≡ Ok (nodes, []) =
     ap (entries_at (length nodes) root_path 1) (sym (append-nil (entries root_path 1 nodes))) ∙ entries_again nodes root_path 1 [] h.2 (omega (arith, h.1)) (omega arith) in

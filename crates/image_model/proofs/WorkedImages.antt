@@ -4,7 +4,7 @@ use Rattle.lower_model.specs.declared.kind.Kind.TheVariants.{Dir, File}
 use Rattle.lower_model.specs.declared.node.LowerNode.{LowerNode}
 use Rattle.image_model.specs.declared.fault.ImageKind.TheVariants as kinds
 use Rattle.image_model.specs.ImageText.{image, magic, root}
-use Rattle.image_model.specs.ImageReading.{reading, nodes_at, counted_at, entries_at, entry_at, level_at, kind_at, name_at, file_octets_at, attribute_at, body_at}
+use Rattle.image_model.specs.ImageReading.{reading, nodes_at, counted_nodes_at, entries_at, entry_at, level_at, kind_at, name_at, file_octets_at, attribute_at, body_at}
 
 abbrev directory_a : LowerNode
 directory_a = record { parent = 0; kind = Dir; name = 0x61 ∷ []; attribute = None; body = [] }
@@ -31,15 +31,15 @@ image_of_f : image (root ∷ file_f ∷ []) ≡ octets_of_f
 image_of_f = refl
 
 empty_reading : reading empty_octets ≡ Ok (root ∷ [])
-unfolding nodes_at counted_at entries_at
+unfolding nodes_at counted_nodes_at entries_at
 empty_reading = refl
 
 reading_of_a : reading octets_of_a ≡ Ok (root ∷ directory_a ∷ [])
-unfolding nodes_at counted_at entries_at entry_at level_at kind_at name_at file_octets_at
+unfolding nodes_at counted_nodes_at entries_at entry_at level_at kind_at name_at file_octets_at
 reading_of_a = refl
 
 reading_of_f : reading octets_of_f ≡ Ok (root ∷ file_f ∷ [])
-unfolding nodes_at counted_at entries_at entry_at level_at kind_at name_at file_octets_at attribute_at body_at
+unfolding nodes_at counted_nodes_at entries_at entry_at level_at kind_at name_at file_octets_at attribute_at body_at
 reading_of_f = refl
 
 no_magic : reading [] ≡ Err (record { offset = 0; kind = kinds.Magic })
@@ -47,9 +47,9 @@ unfolding nodes_at
 no_magic = refl
 
 cut_count : reading (magic ++ 0 ∷ []) ≡ Err (record { offset = 8; kind = kinds.Cut })
-unfolding nodes_at counted_at
+unfolding nodes_at counted_nodes_at
 cut_count = refl
 
 octets_behind : reading (octets_of_a ++ 0 ∷ []) ≡ Err (record { offset = 17; kind = kinds.Extra })
-unfolding nodes_at counted_at entries_at entry_at level_at kind_at name_at file_octets_at
+unfolding nodes_at counted_nodes_at entries_at entry_at level_at kind_at name_at file_octets_at
 octets_behind = refl

@@ -117,14 +117,14 @@ abbrev pub whole_tree : List LowerNode × List ℕ → Result (List LowerNode) F
 whole_tree x = if length x.1 == 0 then Ok (root ∷ x.0) else wrong kinds.Extra x.1
 
 -- a count and so many entries, then nothing
-unfoldable pub counted_at : List ℕ → Result (List LowerNode) FieldFault
-counted_at octets = do
+unfoldable pub counted_nodes_at : List ℕ → Result (List LowerNode) FieldFault
+counted_nodes_at octets = do
   count ← number_at w32 octets
   if nat_le count.0 MOST_ENTRIES then (entries_at count.0 root_path 1 count.1 >>= whole_tree) else wrong kinds.TooMany octets
 
 -- the magic, and what is counted
 unfoldable pub nodes_at : List ℕ → Result (List LowerNode) FieldFault
-nodes_at octets = if starts_with nat_eq octets magic then counted_at (drop 8 octets) else wrong kinds.Magic octets
+nodes_at octets = if starts_with nat_eq octets magic then counted_nodes_at (drop 8 octets) else wrong kinds.Magic octets
 
 -- The offset of a fault is the number of octets before the wrong field.
 abbrev pub with_offset : {A : Type 0} → ℕ → Result A FieldFault → Result A ImageFault

@@ -1,11 +1,12 @@
 -- What a job may hold.
 use Rattle.std.specs.Prelude.{ℕ, ◌≡◌, ◌<◌, ◌≤◌, List, length}
 use Rattle.std.specs.List.{AllByRecursion}
-use Rattle.octet_model.specs.Octets.{AreOctets}
+use Rattle.octet_model.specs.Octets.{AreOctets, HasOctets}
 use Rattle.lower_model.specs.LowerTree.{IsLowerTree}
 use Rattle.tree_model.specs.Path.{IsPath}
 use Rattle.session_model.specs.declared.op.Op.{Op}
 use Rattle.session_model.specs.declared.op.Op.TheVariants.{Mkdir, List as ListOp}
+use Rattle.job_model.specs.declared.limits.TheConstants.{LONGEST_PASSPHRASE, MOST_SESSIONS, MOST_OPERATIONS, MOST_ITEMS}
 use Rattle.job_model.specs.declared.job.Job.{Job}
 use Rattle.job_model.specs.declared.job.NameCoding.TheVariants.{Plain}
 
@@ -14,21 +15,16 @@ IsOp (Mkdir path) = IsPath path
 IsOp (ListOp path) = IsPath path
 
 pub record IsScript (script : List Op) : Type 0 where
-  pub few : length script ≤ 65536
+  pub few : length script ≤ MOST_OPERATIONS
   pub ops : AllByRecursion IsOp script
-
--- this many octets
-pub record HasOctets (count : ℕ) (list : List ℕ) : Type 0 where
-  pub length_is : length list ≡ count
-  pub octets : AreOctets list
 
 pub record IsPassphrase (passphrase : List ℕ) : Type 0 where
   pub some : 1 ≤ length passphrase
-  pub few : length passphrase ≤ 64
+  pub few : length passphrase ≤ LONGEST_PASSPHRASE
   pub octets : AreOctets passphrase
 
 pub record IsSchedule (sessions : ℕ) (schedule : List ℕ) : Type 0 where
-  pub few : length schedule ≤ 1048576
+  pub few : length schedule ≤ MOST_ITEMS
   pub items : AllByRecursion (λ s. s < sessions) schedule
 
 pub record IsJob (job : Job) : Type 0 where
@@ -38,7 +34,7 @@ pub record IsJob (job : Job) : Type 0 where
   pub random : HasOctets 32 job.random
   pub image : IsLowerTree job.image
   pub some_session : 1 ≤ length job.scripts
-  pub few_sessions : length job.scripts ≤ 16
+  pub few_sessions : length job.scripts ≤ MOST_SESSIONS
   pub scripts : AllByRecursion IsScript job.scripts
   pub schedule : IsSchedule (length job.scripts) job.schedule
 
@@ -46,7 +42,3 @@ pub record IsJob (job : Job) : Type 0 where
 pub record IsServedSoFar (job : Job) : Type 0 where
   pub plain_names : job.names ≡ Plain
   pub one_session : length job.scripts ≡ 1
-
--- the longest name in a mount with plain names
-abbrev pub longest_name : ℕ
-longest_name = 255

@@ -5,6 +5,7 @@ use Rattle.image_model.specs.ImageText.{image}
 use Rattle.text_model.specs.Line.{line, number, hex, path}
 use Rattle.session_model.specs.declared.op.Op.{Op}
 use Rattle.session_model.specs.declared.op.Op.TheVariants.{Mkdir, List as ListOp}
+use Rattle.job_model.specs.declared.limits.TheConstants.{MOST_OCTETS}
 use Rattle.job_model.specs.declared.job.Job.{Job}
 use Rattle.lower_model.specs.declared.meta_place.MetaPlace.{MetaPlace}
 use Rattle.lower_model.specs.declared.meta_place.MetaPlace.TheVariants.{Header, Attribute}
@@ -12,13 +13,13 @@ use Rattle.job_model.specs.declared.job.NameCoding.{NameCoding}
 use Rattle.job_model.specs.declared.job.NameCoding.TheVariants.{Plain, Tag70}
 use Rattle.job_model.specs.Job.{IsJob, IsServedSoFar}
 
--- the most octets that a job may have
-abbrev pub most_octets : ℕ
-most_octets = 268435456
+-- an operation's word and its fields
+abbrev pub op_fields : Op → List (List ℕ)
+op_fields (Mkdir p) = codes "mkdir" ∷ path p ∷ []
+op_fields (ListOp p) = codes "list" ∷ path p ∷ []
 
 abbrev pub op_line : Op → List ℕ
-op_line (Mkdir p) = line (codes "mkdir" ∷ path p ∷ [])
-op_line (ListOp p) = line (codes "list" ∷ path p ∷ [])
+op_line op = line (op_fields op)
 
 abbrev pub script_text : List Op → List ℕ
 script_text ops = line (codes "script" ∷ number (length ops) ∷ []) ++ flat_map op_line ops
@@ -27,9 +28,9 @@ abbrev pub coding_word : NameCoding → List ℕ
 coding_word Plain = codes "plain"
 coding_word Tag70 = codes "tag70"
 
-abbrev pub place_word : MetaPlace → List ℕ
-place_word Header = codes "header"
-place_word Attribute = codes "attribute"
+abbrev pub meta_place_word : MetaPlace → List ℕ
+meta_place_word Header = codes "header"
+meta_place_word Attribute = codes "attribute"
 
 -- the length of an image, its octets, and a line end
 abbrev pub image_text : List ℕ → List ℕ
@@ -43,7 +44,7 @@ settings_text job =
     ++ line (codes "salt" ∷ hex job.salt ∷ [])
     ++ line (codes "namesalt" ∷ hex job.namesalt ∷ [])
     ++ line (codes "names" ∷ coding_word job.names ∷ [])
-    ++ line (codes "meta" ∷ place_word job.place ∷ [])
+    ++ line (codes "meta" ∷ meta_place_word job.meta_place ∷ [])
     ++ line (codes "random" ∷ hex job.random ∷ [])
 
 abbrev pub job_text : Job → List ℕ
@@ -59,5 +60,9 @@ job_text job =
 pub record IsJobText (job : Job) (octets : List ℕ) : Type 0 where
   pub lawful : IsJob job
   pub served_so_far : IsServedSoFar job
-  pub short : length octets ≤ most_octets
+  pub short : length octets ≤ MOST_OCTETS
   pub text : octets ≡ job_text job
+
+-- These octets are the text of no job that the program serves so far.
+abbrev pub IsNoJob : List ℕ → Type 0
+IsNoJob octets = (job : Job) → IsJobText job octets → ⊥

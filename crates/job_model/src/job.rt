@@ -1,5 +1,8 @@
+ghost use Rattle.std.specs.Prelude.{Some, codes};
+
 use lower_model::{Items, LowerTree, MetaPlace};
 use session_model::Op;
+use std::fmt::{self, Debug, Formatter, Write};
 
 /// How a mount writes new names.
 #[derive(Clone, Copy, Debug, PartialEq, Eq)]
@@ -22,7 +25,7 @@ pub struct Job {
     /// How new names are written.
     pub names: NameCoding,
     /// Where new files keep their metadata.
-    pub place: MetaPlace,
+    pub meta_place: MetaPlace,
     /// The random octets from which the keys of new files are made.
     pub random: [u8; 32],
     /// The lower tree.
@@ -31,4 +34,13 @@ pub struct Job {
     pub scripts: Items<Items<Op>>,
     /// Whose turn it is, one session after another, in a run on one thread.
     pub schedule: Items<u32>,
+}
+
+// The name alone, since a job holds a passphrase.
+impl Debug for Job {
+    ghost debug_output = { λ _. Some (codes "Job") };
+
+    fn fmt<W: Write>(&self, f: &mut Formatter<W>) -> fmt::Result {
+        f.write_str("Job")
+    }
 }

@@ -1,6 +1,6 @@
 -- The fields of a job are read as they are spelled.
 use Rattle.std.proofs.Common.{◌≡◌, ℕ, ◌<◌, ◌≤◌, ◌^◌, true, cond, leb, ltb, List, [], ◌∷◌, ◌++◌, length, map, codes, Option, Some, None, refl, ap, subst, ◌∙◌, arith, inl, inr}
-use Rattle.std.specs.Prelude.{◌&&◌, ◌==◌}
+use Rattle.std.specs.Prelude.{◌&&◌, ◌==◌, option_and_then}
 use Rattle.std.specs.List.{list_all, slice_split, join_with_byte, flat_map, AllByRecursion}
 use Rattle.std.specs.Option.{option_map}
 use Rattle.std.specs.Str.{bytes_eq}
@@ -12,24 +12,29 @@ use Rattle.std.proofs.lemmas.Option.{none-some, same_Some}
 use Rattle.std.proofs.lemmas.Slice.Eq.{bytes_eq-Decides}
 use Rattle.octet_model.specs.Octets.{AreOctets}
 use Rattle.text_model.specs.Line.{number, hex, path, name, slash_name}
+use Rattle.lower_model.proofs.NameOctets.{AreOctets-name}
 use Rattle.session_model.specs.declared.op.Op.{Op}
 use Rattle.session_model.specs.declared.op.Op.TheVariants.{Mkdir, List as ListOp}
+use Rattle.job_model.specs.declared.limits.TheConstants.{LONGEST_PASSPHRASE, MOST_SESSIONS, MOST_ITEMS}
 use Rattle.job_model.specs.declared.job.NameCoding.{NameCoding}
 use Rattle.job_model.specs.declared.job.NameCoding.TheVariants.{Plain, Tag70}
 use Rattle.lower_model.specs.declared.meta_place.MetaPlace.{MetaPlace}
 use Rattle.lower_model.specs.declared.meta_place.MetaPlace.TheVariants.{Header, Attribute}
 use Rattle.job_model.specs.Job.{IsOp, IsPassphrase, IsSchedule}
-use Rattle.job_model.specs.JobText.{coding_word, place_word}
+use Rattle.job_model.specs.JobText.{op_fields, coding_word, meta_place_word}
+use Rattle.tree_model.specs.Path.{IsPath}
+use Rattle.line_reader.specs.Lines.{cut_in}
 use Rattle.line_reader.specs.Fields.{IsName, number_in, hex_in, path_in, each_in}
 use Rattle.line_reader.proofs.Readers.{IsReader, guard_some}
 use Rattle.line_reader.proofs.Words.{is_word, is_other, both, weaker}
 use Rattle.line_reader.proofs.NumberReader.{own, number_reader}
 use Rattle.line_reader.proofs.HexReader.{hex_reader, hex_digits}
-use Rattle.line_reader.proofs.NameReader.{AreOctets-name, name_words, chosen}
+use Rattle.line_reader.proofs.NameReader.{name_words, chosen}
+use Rattle.line_reader.proofs.Cutting.{cut_parts, cut_again}
 use Rattle.line_reader.proofs.PathReader.{AreSome, fields_reader, path_reader}
 use Rattle.std.specs.Char.{is_ascii_digit}
-use Rattle.job_text.specs.JobReading.{behind, passphrase_if, passphrase_in, coding_in, place_in, number_if, count_in, op_behind, op_in, item_if, item_in, items_if, items_in}
-use Rattle.job_text.proofs.LineParts.{HasNoEnd, behind_is}
+use Rattle.job_text.specs.JobReading.{passphrase_if, passphrase_in, coding_in, meta_place_in, number_if, count_in, OpWord, op_words, op_behind, op_in, item_if, item_in, items_if, items_in}
+use Rattle.job_text.proofs.LineParts.{HasNoEnd}
 
 -- ---- none of them holds a line end
 
@@ -61,17 +66,17 @@ passphrase_reader = record { found = found; again = again }
     of : (text octets : List ℕ) (o : Option (List ℕ)) → hex_in text ≡ o → passphrase_if o ≡ Some octets → (text ≡ hex octets) × IsPassphrase octets
     of text octets None e made = absurd (none-some octets made)
     of text octets (Some read) e made =
-        let g = guard_some (leb 1 (length read) && leb (length read) 64) (Some read) octets made in
-        let parts = and_parts (leb 1 (length read)) (leb (length read) 64) g.0 in
+        let g = guard_some (leb 1 (length read) && leb (length read) LONGEST_PASSPHRASE) (Some read) octets made in
+        let parts = and_parts (leb 1 (length read)) (leb (length read) LONGEST_PASSPHRASE) g.0 in
         let f = hex_reader.found text read e in
         subst (λ (os : List ℕ). (text ≡ hex os) × IsPassphrase os) (same_Some read octets g.1)
-        (f.0, record { some = leb-true 1 (length read) parts.0; few = leb-true (length read) 64 parts.1; octets = f.1 })
+        (f.0, record { some = leb-true 1 (length read) parts.0; few = leb-true (length read) LONGEST_PASSPHRASE parts.1; octets = f.1 })
 
     found : (text octets : List ℕ) → passphrase_in text ≡ Some octets → (text ≡ hex octets) × IsPassphrase octets
     found text octets e = of text octets (hex_in text) refl e
 
     again : (octets : List ℕ) → IsPassphrase octets → passphrase_in (hex octets) ≡ Some octets
-    again octets h = rw (hex_reader.again octets h.octets, le-leb 1 (length octets) h.some, le-leb (length octets) 64 h.few) refl
+    again octets h = rw (hex_reader.again octets h.octets, le-leb 1 (length octets) h.some, le-leb (length octets) LONGEST_PASSPHRASE h.few) refl
 
 abbrev pub IsAny : {A : Type 0} → A → Type 0
 IsAny value = Unit {0}
@@ -93,17 +98,17 @@ coding_reader = record { found = found; again = again }
     again Plain h = refl
     again Tag70 h = refl
 
-pub place_reader : IsReader place_in place_word IsAny
-place_reader = record { found = found; again = again }
+pub meta_place_reader : IsReader meta_place_in meta_place_word IsAny
+meta_place_reader = record { found = found; again = again }
   where
-    found : (text : List ℕ) (place : MetaPlace) → place_in text ≡ Some place → (text ≡ place_word place) × Unit {0}
+    found : (text : List ℕ) (place : MetaPlace) → meta_place_in text ≡ Some place → (text ≡ meta_place_word place) × Unit {0}
     found text place e =
         elim (chosen (bytes_eq text (codes "header")) (Some Header) (cond (bytes_eq text (codes "attribute")) (Some Attribute) None) (Some place) e) [
-          | inl p ↦ (word_is text (codes "header") p.0 ∙ ap place_word (same_Some Header place p.1), tt)
-          | inr q ↦ let g = guard_some (bytes_eq text (codes "attribute")) (Some Attribute) place q.1 in (word_is text (codes "attribute") g.0 ∙ ap place_word (same_Some Attribute place g.1), tt)
+          | inl p ↦ (word_is text (codes "header") p.0 ∙ ap meta_place_word (same_Some Header place p.1), tt)
+          | inr q ↦ let g = guard_some (bytes_eq text (codes "attribute")) (Some Attribute) place q.1 in (word_is text (codes "attribute") g.0 ∙ ap meta_place_word (same_Some Attribute place g.1), tt)
         ]
 
-    again : (place : MetaPlace) → Unit {0} → place_in (place_word place) ≡ Some place
+    again : (place : MetaPlace) → Unit {0} → meta_place_in (meta_place_word place) ≡ Some place
     again Header h = refl
     again Attribute h = refl
 
@@ -131,33 +136,56 @@ count_reader least most small = record { found = found; again = again }
 -- ---- operations
 
 abbrev pub op_text : Op → List ℕ
-op_text (Mkdir p) = codes "mkdir " ++ path p
-op_text (ListOp p) = codes "list " ++ path p
+op_text op = join_with_byte 32 (op_fields op)
 
 map_some : (f : List (List ℕ) → Op) (o : Option (List (List ℕ))) (op : Op) → option_map f o ≡ Some op → (p : List (List ℕ)) × (o ≡ Some p) × (f p ≡ op)
 map_some f None op e = absurd (none-some op e)
 map_some f (Some p) op e = (p, refl, same_Some (f p) op e)
 
+-- What is read behind a word is spelled so.
+record IsOpWord (row : OpWord) : Type 0 where
+  found : (fields : List ℕ) (op : Op) → row.read fields ≡ Some op → (row.word ++ 32 ∷ fields ≡ op_text op) × IsOp op
+
+-- a word with one path
+path_word : (word : List ℕ) (make : List (List ℕ) → Op) → ((names : List (List ℕ)) → word ++ 32 ∷ path names ≡ op_text (make names)) → ((names : List (List ℕ)) → IsPath names → IsOp (make names))
+    → IsOpWord (record { word = word; read = λ fields. option_map make (path_in fields) })
+path_word word make spelled is = record { found = found }
+  where
+    found : (fields : List ℕ) (op : Op) → option_map make (path_in fields) ≡ Some op → (word ++ 32 ∷ fields ≡ op_text op) × IsOp op
+    found fields op e =
+        let m = map_some make (path_in fields) op e in
+        let f = path_reader.found fields m.0 m.1 in
+        subst (λ (o : Op). (word ++ 32 ∷ fields ≡ op_text o) × IsOp o) {x = make m.0} m.2 (ap (λ (t : List ℕ). word ++ 32 ∷ t) f.0 ∙ spelled m.0, is m.0 f.1)
+
+each_word : AllByRecursion IsOpWord op_words
+each_word = (path_word (codes "mkdir") Mkdir (λ names. refl) (λ names h. h), (path_word (codes "list") ListOp (λ names. refl) (λ names h. h), tt))
+
+behind_found : (rows : List OpWord) → AllByRecursion IsOpWord rows → (word fields : List ℕ) (op : Op) → op_behind rows word fields ≡ Some op → (word ++ 32 ∷ fields ≡ op_text op) × IsOp op
+behind_found [] each word fields op e = absurd (none-some op e)
+behind_found (row ∷ rows) each word fields op e =
+    elim (chosen (bytes_eq word row.word) (row.read fields) (op_behind rows word fields) (Some op) e) [
+      | inl p ↦ let f = each.0.found fields op p.1 in (ap (λ (w : List ℕ). w ++ 32 ∷ fields) (word_is word row.word p.0) ∙ f.0, f.1)
+      | inr q ↦ behind_found rows each.1 word fields op q.1
+    ]
+
+abbrev op_of_cut : List ℕ × List ℕ → Option Op
+op_of_cut cut = op_behind op_words cut.0 cut.1
+
 pub op_reader : IsReader op_in op_text IsOp
 op_reader = record { found = found; again = again }
   where
-    of : (text : List ℕ) (op : Op) (a b : Option (List ℕ)) → behind (codes "mkdir ") text ≡ a → behind (codes "list ") text ≡ b → op_behind a b ≡ Some op → (text ≡ op_text op) × IsOp op
-    of text op (Some rest) b ea eb e =
-        let m = map_some Mkdir (path_in rest) op e in
-        let f = path_reader.found rest m.0 m.1 in
-        subst (λ (o : Op). (text ≡ op_text o) × IsOp o) m.2 (behind_is (codes "mkdir ") text rest ea ∙ ap (λ (t : List ℕ). codes "mkdir " ++ t) f.0, f.1)
-    of text op None (Some rest) ea eb e =
-        let m = map_some ListOp (path_in rest) op e in
-        let f = path_reader.found rest m.0 m.1 in
-        subst (λ (o : Op). (text ≡ op_text o) × IsOp o) m.2 (behind_is (codes "list ") text rest eb ∙ ap (λ (t : List ℕ). codes "list " ++ t) f.0, f.1)
-    of text op None None ea eb e = absurd (none-some op e)
+    of : (text : List ℕ) (op : Op) (cut : Option (List ℕ × List ℕ)) → cut_in 32 text ≡ cut → option_and_then op_of_cut cut ≡ Some op → (text ≡ op_text op) × IsOp op
+    of text op None is e = absurd (none-some op e)
+    of text op (Some cut) is e =
+        let f = behind_found op_words each_word cut.0 cut.1 op e in
+        (cut_parts 32 text cut.0 cut.1 is ∙ f.0, f.1)
 
     found : (text : List ℕ) (op : Op) → op_in text ≡ Some op → (text ≡ op_text op) × IsOp op
-    found text op e = of text op (behind (codes "mkdir ") text) (behind (codes "list ") text) refl refl e
+    found text op e = of text op (cut_in 32 text) refl e
 
     again : (op : Op) → IsOp op → op_in (op_text op) ≡ Some op
-    again (Mkdir p) h = ap (option_map Mkdir) (path_reader.again p h)
-    again (ListOp p) h = ap (option_map ListOp) (path_reader.again p h)
+    again (Mkdir p) h = ap (option_and_then op_of_cut) (cut_again 32 (codes "mkdir") (path p) refl) ∙ ap (option_map Mkdir) (path_reader.again p h)
+    again (ListOp p) h = ap (option_and_then op_of_cut) (cut_again 32 (codes "list") (path p) refl) ∙ ap (option_map ListOp) (path_reader.again p h)
 
 pub op_no_end : (op : Op) → IsOp op → HasNoEnd (op_text op)
 op_no_end (Mkdir p) h = path_no_end p h
@@ -165,7 +193,7 @@ op_no_end (ListOp p) h = path_no_end p h
 
 -- ---- the schedule
 
-pub item_reader : (sessions : ℕ) → sessions ≤ 16 → IsReader (item_in sessions) number (λ s. s < sessions)
+pub item_reader : (sessions : ℕ) → sessions ≤ MOST_SESSIONS → IsReader (item_in sessions) number (λ s. s < sessions)
 item_reader sessions few = record { found = found; again = again }
   where
     of : (text : List ℕ) (n : ℕ) (o : Option ℕ) → number_in text ≡ o → item_if sessions o ≡ Some n → (text ≡ number n) × (n < sessions)
@@ -185,7 +213,7 @@ abbrev pub items_text : List ℕ → List ℕ
 items_text [] = []
 items_text (item ∷ items) = 32 ∷ join_with_byte 32 (map number (item ∷ items))
 
-pub items_reader : (sessions : ℕ) → sessions ≤ 16 → IsReader (items_in sessions) items_text (IsSchedule sessions)
+pub items_reader : (sessions : ℕ) → sessions ≤ MOST_SESSIONS → IsReader (items_in sessions) items_text (IsSchedule sessions)
 items_reader sessions few = record { found = found; again = again }
   where
     row : IsReader (λ text. each_in (item_in sessions) (slice_split (λ c. c == 32) text)) (λ items. join_with_byte 32 (map number items)) (AreSome (λ s. s < sessions))
@@ -198,10 +226,10 @@ items_reader sessions few = record { found = found; again = again }
     of : (text items : List ℕ) (o : Option (List ℕ)) → each_in (item_in sessions) (slice_split (λ c. c == 32) text) ≡ o → items_if o ≡ Some items → (32 ∷ text ≡ items_text items) × IsSchedule sessions items
     of text items None e made = absurd (none-some items made)
     of text items (Some read) e made =
-        let g = guard_some (leb (length read) 1048576) (Some read) items made in
+        let g = guard_some (leb (length read) MOST_ITEMS) (Some read) items made in
         let f = row.found text read e in
         subst (λ (is : List ℕ). (32 ∷ text ≡ items_text is) × IsSchedule sessions is) (same_Some read items g.1)
-        (ap (λ (t : List ℕ). 32 ∷ t) f.0 ∙ text_of read f.1.some, record { few = leb-true (length read) 1048576 g.0; items = f.1.each })
+        (ap (λ (t : List ℕ). 32 ∷ t) f.0 ∙ text_of read f.1.some, record { few = leb-true (length read) MOST_ITEMS g.0; items = f.1.each })
 
     found : (text items : List ℕ) → items_in sessions text ≡ Some items → (text ≡ items_text items) × IsSchedule sessions items
     found [] items e = subst (λ (is : List ℕ). ([] ≡ items_text is) × IsSchedule sessions is) (same_Some [] items e) (refl, record { few = omega arith; items = tt })
@@ -212,13 +240,13 @@ items_reader sessions few = record { found = found; again = again }
 
     again : (items : List ℕ) → IsSchedule sessions items → items_in sessions (items_text items) ≡ Some items
     again [] h = refl
-    again (item ∷ items) h = rw (row.again (item ∷ items) (record { some = omega arith; each = h.items }), le-leb (length (item ∷ items)) 1048576 h.few) refl
+    again (item ∷ items) h = rw (row.again (item ∷ items) (record { some = omega arith; each = h.items }), le-leb (length (item ∷ items)) MOST_ITEMS h.few) refl
 
-numbers_no_end : (sessions item : ℕ) (items : List ℕ) → sessions ≤ 16 → AllByRecursion (λ s. s < sessions) (item ∷ items) → HasNoEnd (join_with_byte 32 (map number (item ∷ items)))
+numbers_no_end : (sessions item : ℕ) (items : List ℕ) → sessions ≤ MOST_SESSIONS → AllByRecursion (λ s. s < sessions) (item ∷ items) → HasNoEnd (join_with_byte 32 (map number (item ∷ items)))
 numbers_no_end sessions item [] few h = number_without 10 item (omega arith) (omega (arith, h.0, few))
 numbers_no_end sessions item (next ∷ items) few h =
     both (is_other 10) (number item) (32 ∷ join_with_byte 32 (map number (next ∷ items))) (number_without 10 item (omega arith) (omega (arith, h.0, few))) (numbers_no_end sessions next items few h.1)
 
-pub items_no_end : (sessions : ℕ) (items : List ℕ) → sessions ≤ 16 → AllByRecursion (λ s. s < sessions) items → HasNoEnd (items_text items)
+pub items_no_end : (sessions : ℕ) (items : List ℕ) → sessions ≤ MOST_SESSIONS → AllByRecursion (λ s. s < sessions) items → HasNoEnd (items_text items)
 items_no_end sessions [] few h = refl
 items_no_end sessions (item ∷ items) few h = numbers_no_end sessions item items few h

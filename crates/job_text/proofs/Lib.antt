@@ -1,6 +1,8 @@
-pub mod Parts
-pub mod Loop
+pub mod LineParts
+pub mod FieldReaders
+pub mod JobParts
+pub mod WholeJob
+pub mod PartsInARow
 pub mod KeysRead
-pub mod Values
-pub mod Laws
-pub mod Jobs
+mod ImageLengths
+pub mod ImageCounts

@@ -1,22 +1,21 @@
 -- What the reading of a part and its spelling have to do with each other.
-use Rattle.std.proofs.Common.{◌≡◌, ℕ, zero, suc, Bool, true, false, cond, List, [], ◌∷◌, ◌++◌, length, take, drop, Option, Some, None, Result, Ok, Err, refl, sym, ap, subst, ◌∙◌, append_assoc, arith}
+use Rattle.std.proofs.Common.{◌≡◌, ℕ, zero, suc, ◌<◌, ◌^◌, Bool, true, false, cond, List, [], ◌∷◌, ◌++◌, length, take, drop, Option, Some, None, Result, Ok, Err, refl, sym, ap, subst, ◌∙◌, append_assoc, arith}
 use Rattle.std.specs.Prelude.{◌==◌}
 use Rattle.std.specs.List.{list_all, flat_map, AllByRecursion}
 use Rattle.std.specs.Str.{bytes_eq}
-use Rattle.std.proofs.lemmas.List.{take-append-drop, take_at, drop_at, append-nil, nil_from_length}
+use Rattle.std.proofs.lemmas.List.{length-append, take-append-drop, take_at, drop_at, append-nil, nil_from_length}
 use Rattle.std.proofs.lemmas.Bool.{eqb-true}
 use Rattle.std.proofs.lemmas.Slice.Eq.{bytes_eq-Decides}
 use Rattle.octet_model.specs.Octets.{AreOctets}
+use Rattle.octet_model.proofs.Octets.{AreOctets-rest}
+use Rattle.answer_model.specs.Answer.{◌>>=◌}
+use Rattle.answer_model.proofs.Binds.{bind_ok, ok_is}
 use Rattle.line_reader.specs.Lines.{line_in}
 use Rattle.line_reader.proofs.Readers.{IsReader, guard_some}
 use Rattle.line_reader.proofs.Words.{is_other, both}
 use Rattle.line_reader.proofs.Cutting.{cut_parts, cut_again}
 use Rattle.std.proofs.lemmas.Option.{same_Some}
-use Rattle.job_text.specs.JobReading.{◌>>=◌, Part, or_wrong, behind, word_at, whole_at, field_at, times_at}
-
-pub bind_ok : {A B : Type 0} (r : Result A ℕ) (f : A → Result B ℕ) (y : B) → (r >>= f) ≡ Ok y → (x : A) × (r ≡ Ok x) × (f x ≡ Ok y)
-bind_ok (Ok x) f y e = (x, refl, e)
-bind_ok (Err left) f y e = absurd cc
+use Rattle.job_text.specs.JobReading.{Part, or_wrong, behind, word_at, whole_at, field_at, times_at}
 
 pub or_wrong_ok : {A : Type 0} (o : Option A) (octets : List ℕ) (x : A) → or_wrong o octets ≡ Ok x → o ≡ Some x
 or_wrong_ok (Some y) octets x e = let same : y ≡ x = cc in ap Some same
@@ -25,24 +24,25 @@ or_wrong_ok None octets x e = absurd cc
 abbrev done : {A : Type 0} → A → Result A ℕ
 done x = Ok x
 
-pub ok_is : {A : Type 0} (x y : A) → done x ≡ done y → x ≡ y
-ok_is x y e = cc
-
 -- a line holds no line end
 abbrev pub HasNoEnd : List ℕ → Type 0
 HasNoEnd text = list_all (is_other 10) text ≡ true
 
+-- what a slice of octets can hold
+pub record IsSlice (list : List ℕ) : Type 0 where
+  pub octets : AreOctets list
+  pub short : length list < 2 ^ 64
+
+pub IsSlice-rest : (octets text rest : List ℕ) → octets ≡ text ++ rest → IsSlice octets → IsSlice rest
+IsSlice-rest octets text rest e fits = record {
+  octets = AreOctets-rest octets text rest e fits.octets;
+  short = omega (arith, ap length e, length-append text rest, fits.short);
+}
+
 -- What is read is spelled so, and what is spelled so is read, whatever follows.
 pub record IsPart {A : Type 0} (at : List ℕ → Part A) (spell : A → List ℕ) (Fits : A → Type 0) : Type 0 where
-  pub found : (octets : List ℕ) → AreOctets octets → (x : A × List ℕ) → at octets ≡ Ok x → (octets ≡ spell x.0 ++ x.1) × Fits x.0
+  pub found : (octets : List ℕ) → IsSlice octets → (x : A × List ℕ) → at octets ≡ Ok x → (octets ≡ spell x.0 ++ x.1) × Fits x.0
   pub again : (value : A) (rest : List ℕ) → Fits value → at (spell value ++ rest) ≡ Ok (value, rest)
-
-AreOctets-behind : (text rest : List ℕ) → AreOctets (text ++ rest) → AreOctets rest
-AreOctets-behind [] rest fits = fits
-AreOctets-behind (x ∷ xs) rest fits = AreOctets-behind xs rest fits.1
-
-pub AreOctets-rest : (octets text rest : List ℕ) → octets ≡ text ++ rest → AreOctets octets → AreOctets rest
-AreOctets-rest octets text rest e fits = AreOctets-behind text rest (subst AreOctets e fits)
 
 pub ended : {A : Type 0} (test : Bool) (x : A) (left : ℕ) (y : A) → cond test (Ok x) (Err left) ≡ done y → (test ≡ true) × (x ≡ y)
 ended true x left y e = (refl, cc)
@@ -63,7 +63,7 @@ pub behind_again : (word field : List ℕ) → behind word (word ++ field) ≡ S
 behind_again word field =
     rw (take_at word field (length word) refl, drop_at word field (length word) refl, (bytes_eq-Decides word word).1 refl) refl
 
-word_found : (word octets : List ℕ) (x : List ℕ × List ℕ) → word_at word octets ≡ Ok x → octets ≡ (word ++ x.0) ++ 10 ∷ x.1
+pub word_found : (word octets : List ℕ) (x : List ℕ × List ℕ) → word_at word octets ≡ Ok x → octets ≡ (word ++ x.0) ++ 10 ∷ x.1
 unfolding word_at
 word_found word octets x e =
     let l = bind_ok (or_wrong (line_in octets) octets) _ x e in
@@ -75,6 +75,15 @@ word_found word octets x e =
 word_again : (word text rest : List ℕ) → HasNoEnd word → HasNoEnd text → word_at word ((word ++ text) ++ 10 ∷ rest) ≡ Ok (text, rest)
 unfolding word_at
 word_again word text rest w t = rw (cut_again 10 (word ++ text) rest (both (is_other 10) word text w t), behind_again word text) refl
+
+-- a field that is read by one reader is read by another that answers the same
+pub field_by : {A : Type 0} (read other : List ℕ → Option A) (word octets : List ℕ) (x : A × List ℕ) → ((text : List ℕ) → read text ≡ Some x.0 → other text ≡ Some x.0) → field_at word read octets ≡ Ok x → field_at word other octets ≡ Ok x
+field_by {A} read other word octets x same e =
+    let t = bind_ok (word_at word octets) _ x e in
+    let v = bind_ok (or_wrong (read t.0.0) octets) _ x t.2 in
+    let is : v.0 ≡ x.0 = ap (λ (y : A × List ℕ). y.0) (ok_is {E = ℕ} (v.0, t.0.1) x v.2) in
+    let answer = same t.0.0 (or_wrong_ok (read t.0.0) octets v.0 v.1 ∙ ap Some is) in
+    rw (t.1, answer) (ap (λ (y : A). done (y, t.0.1)) (sym is) ∙ v.2)
 
 pub whole_found : (word octets rest : List ℕ) → whole_at word octets ≡ Ok rest → octets ≡ (word ++ 10 ∷ []) ++ rest
 unfolding whole_at
@@ -93,7 +102,7 @@ pub field_part : {A : Type 0} {read : List ℕ → Option A} {spell : A → List
     → IsPart (field_at word read) (λ value. (word ++ spell value) ++ 10 ∷ []) Fits
 field_part {A} {read} {spell} {Fits} word w r clean = record { found = found; again = again }
   where
-    found : (octets : List ℕ) → AreOctets octets → (x : A × List ℕ) → field_at word read octets ≡ Ok x → (octets ≡ ((word ++ spell x.0) ++ 10 ∷ []) ++ x.1) × Fits x.0
+    found : (octets : List ℕ) → IsSlice octets → (x : A × List ℕ) → field_at word read octets ≡ Ok x → (octets ≡ ((word ++ spell x.0) ++ 10 ∷ []) ++ x.1) × Fits x.0
     found octets fits x e =
         let t = bind_ok (word_at word octets) _ x e in
         let v = bind_ok (or_wrong (read t.0.0) octets) _ x t.2 in
@@ -114,7 +123,7 @@ pub line_part : {A : Type 0} {read : List ℕ → Option A} {spell : A → List 
     → IsPart (read_line read) (λ value. spell value ++ 10 ∷ []) Fits
 line_part {A} {read} {spell} {Fits} r clean = record { found = found; again = again }
   where
-    found : (octets : List ℕ) → AreOctets octets → (x : A × List ℕ) → read_line read octets ≡ Ok x → (octets ≡ (spell x.0 ++ 10 ∷ []) ++ x.1) × Fits x.0
+    found : (octets : List ℕ) → IsSlice octets → (x : A × List ℕ) → read_line read octets ≡ Ok x → (octets ≡ (spell x.0 ++ 10 ∷ []) ++ x.1) × Fits x.0
     found octets fits x e =
         let l = bind_ok (or_wrong (line_in octets) octets) _ x e in
         let v = bind_ok (or_wrong (read l.0.0) octets) _ x l.2 in
@@ -133,7 +142,7 @@ pub record AreMany {A : Type 0} (Fits : A → Type 0) (count : ℕ) (values : Li
   pub count_is : length values ≡ count
   pub each : AllByRecursion Fits values
 
-many_found : {A : Type 0} {at : List ℕ → Part A} {spell : A → List ℕ} {Fits : A → Type 0} → IsPart at spell Fits → (count : ℕ) (octets : List ℕ) → AreOctets octets → (x : List A × List ℕ) → times_at at count octets ≡ Ok x
+many_found : {A : Type 0} {at : List ℕ → Part A} {spell : A → List ℕ} {Fits : A → Type 0} → IsPart at spell Fits → (count : ℕ) (octets : List ℕ) → IsSlice octets → (x : List A × List ℕ) → times_at at count octets ≡ Ok x
     → (octets ≡ flat_map spell x.0 ++ x.1) × AreMany Fits count x.0
 unfolding times_at
 many_found {A} {at} {spell} {Fits} p zero octets fits x e =
@@ -143,7 +152,7 @@ many_found {A} {at} {spell} {Fits} p (suc count) octets fits x e =
     let a = bind_ok (at octets) _ x e in
     let b = bind_ok (times_at at count a.0.1) _ x a.2 in
     let first = p.found octets fits a.0 a.1 in
-    let others = many_found p count a.0.1 (AreOctets-rest octets (spell a.0.0) a.0.1 first.0 fits) b.0 b.1 in
+    let others = many_found p count a.0.1 (IsSlice-rest octets (spell a.0.0) a.0.1 first.0 fits) b.0 b.1 in
     let made : List A × List ℕ = (a.0.0 ∷ b.0.0, b.0.1) in
     subst (λ (y : List A × List ℕ). (octets ≡ flat_map spell y.0 ++ y.1) × AreMany Fits (suc count) y.0) (ok_is made x b.2)
     (first.0 ∙ ap (λ (t : List ℕ). spell a.0.0 ++ t) others.0 ∙ sym (append_assoc (spell a.0.0) (flat_map spell b.0.0) b.0.1), record { count_is = ap suc others.1.count_is; each = (first.1, others.1.each) })

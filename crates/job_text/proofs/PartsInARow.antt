@@ -1,9 +1,10 @@
--- Reading parts one after the other, as a loop does.
+-- Parts that are read one behind another.
 use Rattle.std.proofs.Common.{◌≡◌, ℕ, suc, ◌-◌, ◌+◌, ◌≤◌, ◌<◌, List, [], ◌∷◌, ◌++◌, Ok, Err, refl, sym, ap, ◌∙◌, append_assoc, arith}
 use Rattle.std.proofs.lemmas.List.{append-nil}
+use Rattle.answer_model.specs.Answer.{◌>>=◌, FailsAs}
 use Rattle.job_text.specs.declared.fault.LineError.{LineError}
 use Rattle.job_text.specs.declared.fault.LineError.TheVariants as errors
-use Rattle.job_text.specs.JobReading.{◌>>=◌, Part, Fails, times_at}
+use Rattle.job_text.specs.JobReading.{Part, left_of, times_at}
 
 abbrev part_of : {A : Type 0} → A → List ℕ → Part A
 part_of value rest = Ok (value, rest)
@@ -24,8 +25,8 @@ goes_on {A} at front count i octets value after total lt h so_far =
     let one : with_front front (times_at at (count - i) octets) ≡ with_front (front ++ value ∷ []) (times_at at (count - (i + 1)) after) = rw (k, h) (regroup front value (times_at at (count - (i + 1)) after)) in
     sym one ∙ so_far
 
-pub stops : {A : Type 0} (at : List ℕ → Part A) (e : LineError) (front : List A) (count i : ℕ) (octets : List ℕ) (total : Part (List A)) → i < count → Fails e (at octets)
-    → with_front front (times_at at (count - i) octets) ≡ total → Fails e total
+pub stops : {A : Type 0} (at : List ℕ → Part A) (e : LineError) (front : List A) (count i : ℕ) (octets : List ℕ) (total : Part (List A)) → i < count → FailsAs (left_of e) (Unit {0}) (at octets)
+    → with_front front (times_at at (count - i) octets) ≡ total → FailsAs (left_of e) (Unit {0}) total
 unfolding times_at
 stops at errors.Memory front count i octets total lt h so_far = tt
 stops at (errors.Wrong left) front count i octets total lt h so_far =

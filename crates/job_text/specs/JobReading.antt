@@ -1,38 +1,37 @@
 -- Reading a job line by line, up to the first line that isn't in the grammar at its place.
-use Rattle.std.specs.Prelude.{ℕ, zero, suc, ◌≡◌, ◌-◌, List, [], ◌∷◌, length, take, drop, codes, Option, Some, None, Result, Ok, Err, Bool, true, false, nat_lt, nat_le, ◌==◌, ◌&&◌, if◌then◌else◌}
+use Rattle.std.specs.Prelude.{ℕ, zero, suc, ◌≡◌, ◌-◌, List, [], ◌∷◌, length, take, drop, codes, Option, Some, None, option_and_then, Result, Ok, Err, Bool, true, false, nat_lt, nat_le, ◌==◌, ◌&&◌, if◌then◌else◌}
 use Rattle.std.specs.List.{slice_split}
 use Rattle.std.specs.Option.{option_map}
 use Rattle.std.specs.Str.{bytes_eq}
+use Rattle.answer_model.specs.Answer.{◌>>=◌, GivesAs}
 use Rattle.lower_model.specs.declared.node.LowerNode.{LowerNode}
 use Rattle.image_model.specs.declared.fault.ImageFault.{ImageFault}
 use Rattle.image_model.specs.ImageReading.{reading}
 use Rattle.session_model.specs.declared.op.Op.{Op}
 use Rattle.session_model.specs.declared.op.Op.TheVariants.{Mkdir, List as ListOp}
+use Rattle.job_model.specs.declared.limits.TheConstants.{LONGEST_PASSPHRASE, MOST_SESSIONS, MOST_OPERATIONS, MOST_ITEMS}
 use Rattle.job_model.specs.declared.job.Job.{Job}
 use Rattle.job_model.specs.declared.job.NameCoding.{NameCoding}
 use Rattle.job_model.specs.declared.job.NameCoding.TheVariants.{Plain, Tag70}
 use Rattle.lower_model.specs.declared.meta_place.MetaPlace.{MetaPlace}
 use Rattle.lower_model.specs.declared.meta_place.MetaPlace.TheVariants.{Header, Attribute}
-use Rattle.line_reader.specs.Lines.{line_in}
-use Rattle.line_reader.specs.Fields.{number_in, hex_in, sized_hex_in, path_in, each_in}
+use Rattle.line_reader.specs.Lines.{cut_in, line_in}
+use Rattle.line_reader.specs.Fields.{any_number_in, number_in, hex_in, sized_hex_in, path_in, each_in}
+use Rattle.job_text.specs.declared.fault.JobError.{JobError}
+use Rattle.job_text.specs.declared.fault.JobError.TheVariants.{Bad, Memory}
 use Rattle.job_text.specs.declared.fault.LineError.{LineError}
 use Rattle.job_text.specs.declared.fault.LineError.TheVariants as errors
 use Rattle.job_text.specs.declared.settings.Keys.{Keys}
 use Rattle.job_text.specs.declared.settings.Making.{Making}
 
-infixl 10 ◌>>=◌
-abbrev pub ◌>>=◌ : {A B : Type 0} → Result A ℕ → (A → Result B ℕ) → Result B ℕ
-(Ok x) >>= f = f x
-(Err left) >>= f = Err left
+-- how many octets are left from the wrong line on; none for want of memory
+abbrev pub left_of : LineError → Option ℕ
+left_of (errors.Wrong left) = Some left
+left_of errors.Memory = None
 
--- What a function returned, seen by view, is what the reading gives, unless memory ran out.
-abbrev pub Fails : {Y : Type 0} → LineError → Result Y ℕ → Type 0
-Fails (errors.Wrong left) read = read ≡ Err left
-Fails errors.Memory read = Unit {0}
-
+-- what the reading gives, seen by view, unless memory ran out
 abbrev pub Gives : {X Y : Type 0} → (X → Y) → Result X LineError → Result Y ℕ → Type 0
-Gives view (Ok x) read = read ≡ Ok (view x)
-Gives view (Err e) read = Fails e read
+Gives view answer read = GivesAs view left_of (Unit {0}) answer read
 
 -- A part of a job is a value and the octets behind it. Of a wrong line, it is told how many octets are left from its first one on.
 abbrev pub Part : Type 0 → Type 0
@@ -77,21 +76,21 @@ times_at read (suc count) octets = do
 -- ---- the settings
 
 abbrev pub passphrase_of : List ℕ → Option (List ℕ)
-passphrase_of octets = if nat_le 1 (length octets) && nat_le (length octets) 64 then Some octets else None
+passphrase_of octets = if nat_le 1 (length octets) && nat_le (length octets) LONGEST_PASSPHRASE then Some octets else None
 
 abbrev pub passphrase_if : Option (List ℕ) → Option (List ℕ)
 passphrase_if None = None
 passphrase_if (Some octets) = passphrase_of octets
 
--- 1 to 64 octets
+-- some octets, and not too many
 abbrev pub passphrase_in : List ℕ → Option (List ℕ)
 passphrase_in text = passphrase_if (hex_in text)
 
 abbrev pub coding_in : List ℕ → Option NameCoding
 coding_in text = if bytes_eq text (codes "plain") then Some Plain else if bytes_eq text (codes "tag70") then Some Tag70 else None
 
-abbrev pub place_in : List ℕ → Option MetaPlace
-place_in text = if bytes_eq text (codes "header") then Some Header else if bytes_eq text (codes "attribute") then Some Attribute else None
+abbrev pub meta_place_in : List ℕ → Option MetaPlace
+meta_place_in text = if bytes_eq text (codes "header") then Some Header else if bytes_eq text (codes "attribute") then Some Attribute else None
 
 abbrev pub keys_of : List ℕ → List ℕ → List ℕ → Keys
 keys_of passphrase salt namesalt = record { passphrase = passphrase; salt = salt; namesalt = namesalt }
@@ -108,9 +107,9 @@ keys_at octets = do
 unfoldable pub making_at : List ℕ → Part Making
 making_at octets = do
   names ← field_at (codes "names ") coding_in octets
-  place ← field_at (codes "meta ") place_in names.1
-  random ← field_at (codes "random ") (sized_hex_in 32) place.1
-  Ok (record { names = names.0; place = place.0; random = random.0 }, random.1)
+  meta_place ← field_at (codes "meta ") meta_place_in names.1
+  random ← field_at (codes "random ") (sized_hex_in 32) meta_place.1
+  Ok (record { names = names.0; meta_place = meta_place.0; random = random.0 }, random.1)
 
 -- ---- the image
 
@@ -119,19 +118,20 @@ abbrev pub behind_end : List ℕ → Result (List ℕ) ℕ
 behind_end [] = Err 0
 behind_end (c ∷ rest) = if c == 10 then Ok rest else Err (length (c ∷ rest))
 
--- A fault of the image has its place in it.
+-- A fault of the image has its offset in it.
 abbrev pub image_or_fault : {A : Type 0} → Result A ImageFault → List ℕ → Result A ℕ
 image_or_fault (Ok nodes) octets = Ok nodes
-image_or_fault (Err fault) octets = Err (length octets - fault.place)
+image_or_fault (Err fault) octets = Err (length octets - fault.offset)
 
--- the image of this length
+-- The image of this length. Where fewer octets are left, they are wrong from the image's first one on.
 abbrev pub sized_image_at : ℕ → List ℕ → Part (List LowerNode)
 sized_image_at count octets =
     if nat_lt (length octets) count then Err (length octets) else (image_or_fault (reading (take count octets)) octets >>= λ nodes. behind_end (drop count octets) >>= λ rest. Ok (nodes, rest))
 
+-- Its length is a number of any size.
 unfoldable pub image_at : List ℕ → Part (List LowerNode)
 image_at octets = do
-  count ← field_at (codes "image ") number_in octets
+  count ← field_at (codes "image ") any_number_in octets
   sized_image_at count.0 count.1
 
 -- ---- the scripts
@@ -144,13 +144,25 @@ number_if least most (Some n) = if nat_le least n && nat_le n most then Some n e
 abbrev pub count_in : ℕ → ℕ → List ℕ → Option ℕ
 count_in least most text = number_if least most (number_in text)
 
-abbrev pub op_behind : Option (List ℕ) → Option (List ℕ) → Option Op
-op_behind (Some path) other = option_map Mkdir (path_in path)
-op_behind None (Some path) = option_map ListOp (path_in path)
-op_behind None None = None
+-- An operation's word, and how the fields behind it are read.
+pub record OpWord : Type 0 where
+  pub word : List ℕ
+  pub read : List ℕ → Option Op
 
+abbrev pub op_words : List OpWord
+op_words =
+    record { word = codes "mkdir"; read = λ fields. option_map Mkdir (path_in fields) }
+    ∷ record { word = codes "list"; read = λ fields. option_map ListOp (path_in fields) }
+    ∷ []
+
+-- fields that are read as those of this word
+abbrev pub op_behind : List OpWord → List ℕ → List ℕ → Option Op
+op_behind [] word fields = None
+op_behind (first ∷ others) word fields = if bytes_eq word first.word then first.read fields else op_behind others word fields
+
+-- a word, a blank, and the fields behind it
 abbrev pub op_in : List ℕ → Option Op
-op_in text = op_behind (behind (codes "mkdir ") text) (behind (codes "list ") text)
+op_in text = option_and_then (λ cut. op_behind op_words cut.0 cut.1) (cut_in 32 text)
 
 unfoldable pub op_at : List ℕ → Part Op
 op_at octets = do
@@ -160,13 +172,13 @@ op_at octets = do
 
 unfoldable pub script_at : List ℕ → Part (List Op)
 script_at octets = do
-  count ← field_at (codes "script ") (count_in 0 65536) octets
+  count ← field_at (codes "script ") (count_in 0 MOST_OPERATIONS) octets
   times_at op_at count.0 count.1
 
--- 1 to 16 sessions
+-- at least one session
 unfoldable pub scripts_at : List ℕ → Part (List (List Op))
 scripts_at octets = do
-  count ← field_at (codes "sessions ") (count_in 1 16) octets
+  count ← field_at (codes "sessions ") (count_in 1 MOST_SESSIONS) octets
   times_at script_at count.0 count.1
 
 -- ---- the schedule
@@ -180,7 +192,7 @@ item_in sessions text = item_if sessions (number_in text)
 
 abbrev pub items_if : Option (List ℕ) → Option (List ℕ)
 items_if None = None
-items_if (Some items) = if nat_le (length items) 1048576 then Some items else None
+items_if (Some items) = if nat_le (length items) MOST_ITEMS then Some items else None
 
 -- a blank before each item
 abbrev pub items_in : ℕ → List ℕ → Option (List ℕ)
@@ -199,7 +211,7 @@ end_at octets = do
 
 abbrev pub job_of : Keys → Making → List LowerNode → List (List Op) → List ℕ → Job
 job_of keys making image scripts schedule =
-    record { passphrase = keys.passphrase; salt = keys.salt; namesalt = keys.namesalt; names = making.names; place = making.place; random = making.random; image = image; scripts = scripts; schedule = schedule }
+    record { passphrase = keys.passphrase; salt = keys.salt; namesalt = keys.namesalt; names = making.names; meta_place = making.meta_place; random = making.random; image = image; scripts = scripts; schedule = schedule }
 
 -- what stands behind the settings
 abbrev pub Work : Type 0
@@ -230,3 +242,9 @@ is_plain Tag70 = false
 
 abbrev pub is_served_so_far : Job → Bool
 is_served_so_far job = is_plain job.names && length job.scripts == 1
+
+-- this job, or memory ran out
+abbrev pub IsJobOrMemory : Job → Result Job JobError → Type 0
+IsJobOrMemory job (Ok found) = found ≡ job
+IsJobOrMemory job (Err Memory) = Unit {0}
+IsJobOrMemory job (Err Bad) = ⊥

@@ -1,23 +1,12 @@
-ghost use Rattle.std.specs.Prelude.{◌≡◌, ◌≤◌, codes, length};
-ghost use Rattle.line_reader.specs.Fields.{number_in};
-ghost use Rattle.job_text.specs.JobReading.{Gives, field_at, behind_end, sized_image_at, image_at};
+ghost use Rattle.std.specs.Prelude.{◌≤◌, length};
+ghost use Rattle.job_text.specs.JobReading.{Gives, behind_end, sized_image_at, image_at};
 
 use crate::fault::LineError;
 use crate::line::word_line;
-use line_reader::read_number;
+use line_reader::read_saturated;
 use lower_image::{ImageError, read_image};
 use lower_model::LowerTree;
 use std::alloc::Global;
-
-fn length_of(octets: &[u8]) -> Result<(u64, &[u8]), LineError>
-    ensures { Gives (λ x. (x.0, x.1.now)) result (field_at (codes "image ") number_in octets.now) }
-{
-    let (text, rest) = word_line(b"image ", octets)?;
-    let Some(count) = read_number(text) else {
-        return Err(LineError::Wrong(octets.len()));
-    };
-    Ok((count, rest))
-}
 
 fn behind_line_end(octets: &[u8]) -> Result<&[u8], LineError>
     ensures { Gives (λ rest. rest.now) result (behind_end octets.now) }
@@ -49,17 +38,20 @@ fn sized_image_of(
             let rest = behind_line_end(behind)?;
             Ok((tree, rest))
         }
-        Err(ImageError::Fault(fault)) => Err(LineError::Wrong(octets.len() - fault.place)),
+        Err(ImageError::Fault(fault)) => Err(LineError::Wrong(octets.len() - fault.offset)),
         Err(ImageError::Memory) => Err(LineError::Memory),
     }
 }
 
 /// The tree of the image part of a job, and the octets behind that part.
-#[tactic(auto, unfolding(crate::specs::JobReading::image_at))]
 pub fn image_of(alloc: Global, octets: &[u8]) -> Result<(LowerTree, &[u8]), LineError>
     ensures { Gives (λ x. (x.0, x.1.now)) result (image_at octets.now) }
 {
-    let (count, rest) = length_of(octets)?;
+    let (text, rest) = word_line(b"image ", octets)?;
+    let Some(count) = read_saturated(text) else {
+        return Err(LineError::Wrong(octets.len()));
+    };
+    // A slice is shorter than the last u64, so this is right also where that stands for a greater number.
     if (rest.len() as u64) < count {
         return Err(LineError::Wrong(rest.len()));
     }

@@ -6,7 +6,7 @@ use crate::fault::LineError;
 use line_reader::first_line;
 
 /// What stands behind a word in a text.
-pub fn text_behind<'a>(word: &[u8], text: &'a [u8]) -> Option<&'a [u8]>
+fn text_behind<'a>(word: &[u8], text: &'a [u8]) -> Option<&'a [u8]>
     ensures { option_map (λ x. x.now) result ≡ behind word.now text.now }
 {
     text.strip_prefix(word)

@@ -1,8 +1,7 @@
 ghost use Rattle.std.specs.Prelude.{◌≡◌, IfOk, Err};
 ghost use Rattle.job_model.specs.declared.job.Job.{Job as JobValue};
-ghost use Rattle.job_model.specs.JobText.{IsJobText};
-ghost use Rattle.job_text.specs.Outcome.{IsNoJob, IsJobOrMemory};
-ghost use Rattle.job_text.specs.JobReading.{Gives, end_at, work_at, job_at, is_served_so_far as served_test};
+ghost use Rattle.job_model.specs.JobText.{IsJobText, IsNoJob};
+ghost use Rattle.job_text.specs.JobReading.{Gives, end_at, work_at, job_at, is_served_so_far as served_test, IsJobOrMemory};
 
 use crate::fault::{JobError, LineError};
 use crate::image::image_of;
@@ -10,13 +9,10 @@ use crate::line::whole_line;
 use crate::schedule::schedule_of;
 use crate::script::scripts_of;
 use crate::settings::{Keys, Making, keys_of, making_of};
-use job_model::{Job, NameCoding};
+use job_model::{Job, MOST_OCTETS, NameCoding};
 use lower_model::{Items, LowerTree};
 use session_model::Op;
 use std::alloc::Global;
-
-/// The most octets that a job may have.
-const MOST_OCTETS: usize = 268_435_456;
 
 /// What stands behind the settings of a job.
 #[derive(Drop)]
@@ -27,7 +23,7 @@ struct Work {
 }
 
 #[tactic(auto, unfolding(crate::specs::JobReading::end_at))]
-fn ends(octets: &[u8]) -> Result<(), LineError>
+fn end_of_job(octets: &[u8]) -> Result<(), LineError>
     ensures { Gives (λ x. x) result (end_at octets.now) }
 {
     let rest = whole_line(b"end", octets)?;
@@ -44,7 +40,7 @@ fn work_of(alloc: Global, octets: &[u8]) -> Result<Work, LineError>
     let (image, rest) = image_of(alloc, octets)?;
     let (scripts, rest) = scripts_of(alloc, rest)?;
     let (schedule, rest) = schedule_of(alloc, scripts.len() as u32, rest)?;
-    ends(rest)?;
+    end_of_job(rest)?;
     Ok(Work {
         image,
         scripts,
@@ -67,7 +63,7 @@ fn job_of(alloc: Global, octets: &[u8]) -> Result<Job, LineError>
     } = keys;
     let Making {
         names,
-        place,
+        meta_place,
         random,
     } = making;
     let Work {
@@ -80,7 +76,7 @@ fn job_of(alloc: Global, octets: &[u8]) -> Result<Job, LineError>
         salt,
         namesalt,
         names,
-        place,
+        meta_place,
         random,
         image,
         scripts,

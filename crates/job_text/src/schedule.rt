@@ -5,6 +5,7 @@ ghost use Rattle.job_text.specs.JobReading.{Gives, item_in, items_in, schedule_a
 
 use crate::fault::LineError;
 use crate::line::word_line;
+use job_model::MOST_ITEMS;
 use line_reader::{cut_at, read_number};
 use lower_model::Items;
 use std::alloc::{AllocError, Global};
@@ -50,7 +51,7 @@ fn read_items(alloc: Global, sessions: u32, text: &[u8]) -> Result<Option<Items<
             }
             match items_of(alloc, sessions, spelled)? {
                 Some(items) => {
-                    if items.len() <= 1_048_576 {
+                    if items.len() <= MOST_ITEMS {
                         Ok(Some(items))
                     } else {
                         Ok(None)

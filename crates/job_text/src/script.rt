@@ -1,9 +1,10 @@
 ghost use Rattle.std.specs.Prelude.{◌≡◌, ◌≤◌, codes, length, IfOk};
-ghost use Rattle.job_text.specs.JobReading.{Gives, field_at, count_in, op_in, op_at, times_at, script_at, scripts_at};
+ghost use Rattle.job_text.specs.JobReading.{Gives, field_at, count_in, op_words, op_behind as op_behind_test, op_in, op_at, times_at, script_at, scripts_at};
 
 use crate::fault::LineError;
-use crate::line::{text_behind, word_line};
-use line_reader::{first_line, read_number, read_path};
+use crate::line::word_line;
+use job_model::{MOST_OPERATIONS, MOST_SESSIONS};
+use line_reader::{cut_at, first_line, read_number, read_path};
 use lower_model::Items;
 use session_model::Op;
 use std::alloc::{AllocError, Global};
@@ -28,16 +29,26 @@ fn count_of<'a>(
     }
 }
 
+/// The operation of a word and its fields.
+fn op_behind(alloc: Global, word: &[u8], fields: &[u8]) -> Result<Option<Op>, AllocError>
+    ensures { IfOk result (λ found. found ≡ op_behind_test op_words word.now fields.now) }
+{
+    if word == b"mkdir".as_slice() {
+        return Ok(read_path(alloc, fields)?.map(Op::Mkdir));
+    }
+    if word == b"list".as_slice() {
+        return Ok(read_path(alloc, fields)?.map(Op::List));
+    }
+    Ok(None)
+}
+
 fn read_op(alloc: Global, text: &[u8]) -> Result<Option<Op>, AllocError>
     ensures { IfOk result (λ found. found ≡ op_in text.now) }
 {
-    if let Some(path) = text_behind(b"mkdir ", text) {
-        return Ok(read_path(alloc, path)?.map(Op::Mkdir));
-    }
-    if let Some(path) = text_behind(b"list ", text) {
-        return Ok(read_path(alloc, path)?.map(Op::List));
-    }
-    Ok(None)
+    let Some((word, fields)) = cut_at(b' ', text) else {
+        return Ok(None);
+    };
+    op_behind(alloc, word, fields)
 }
 
 #[tactic(auto, unfolding(crate::specs::JobReading::op_at))]
@@ -70,7 +81,7 @@ fn ops_of(alloc: Global, count: u64, octets: &[u8]) -> Result<(Items<Op>, &[u8])
 fn script_of(alloc: Global, octets: &[u8]) -> Result<(Items<Op>, &[u8]), LineError>
     ensures { Gives (λ x. (x.0, x.1.now)) result (script_at octets.now) }
 {
-    let (count, rest) = count_of(b"script ", 0, 65_536, octets)?;
+    let (count, rest) = count_of(b"script ", 0, MOST_OPERATIONS as u64, octets)?;
     ops_of(alloc, count, rest)
 }
 
@@ -96,8 +107,8 @@ fn sessions_of(
 #[tactic(auto, unfolding(crate::specs::JobReading::scripts_at))]
 pub fn scripts_of(alloc: Global, octets: &[u8]) -> Result<(Items<Items<Op>>, &[u8]), LineError>
     ensures read { Gives (λ x. (x.0, x.1.now)) result (scripts_at octets.now) }
-    ensures few { IfOk result (λ x. length x.0 ≤ 16) }
+    ensures few { IfOk result (λ x. length x.0 ≤ MOST_SESSIONS) }
 {
-    let (count, rest) = count_of(b"sessions ", 1, 16, octets)?;
+    let (count, rest) = count_of(b"sessions ", 1, MOST_SESSIONS as u64, octets)?;
     sessions_of(alloc, count, rest)
 }

@@ -1,10 +1,10 @@
 ghost use Rattle.std.specs.Prelude.{◌≡◌, codes, IfOk};
-ghost use Rattle.job_text.specs.JobReading.{Gives, field_at, passphrase_in, coding_in, place_in, keys_at, making_at};
+ghost use Rattle.job_text.specs.JobReading.{Gives, field_at, passphrase_in, coding_in, meta_place_in, keys_at, making_at};
 ghost use Rattle.line_reader.specs.Fields.{sized_hex_in};
 
 use crate::fault::LineError;
 use crate::line::word_line;
-use job_model::{MetaPlace, NameCoding};
+use job_model::{LONGEST_PASSPHRASE, MetaPlace, NameCoding};
 use line_reader::{read_hex, read_hex_array};
 use lower_model::Items;
 use std::alloc::{AllocError, Global};
@@ -12,7 +12,7 @@ use std::alloc::{AllocError, Global};
 /// The passphrase and the two salts of a job.
 #[derive(Drop)]
 pub struct Keys {
-    /// 1 to 64 octets.
+    /// At least one octet, and at most `LONGEST_PASSPHRASE`.
     pub passphrase: Items<u8>,
     /// The salt of the file key-encryption key.
     pub salt: [u8; 8],
@@ -26,7 +26,7 @@ pub struct Making {
     /// How new names are written.
     pub names: NameCoding,
     /// Where new files keep their metadata.
-    pub place: MetaPlace,
+    pub meta_place: MetaPlace,
     /// The random octets from which the keys of new files are made.
     pub random: [u8; 32],
 }
@@ -37,7 +37,7 @@ fn read_passphrase(alloc: Global, text: &[u8]) -> Result<Option<Items<u8>>, Allo
     let Some(octets) = read_hex(alloc, text)? else {
         return Ok(None);
     };
-    if 1 <= octets.len() && octets.len() <= 64 {
+    if 1 <= octets.len() && octets.len() <= LONGEST_PASSPHRASE {
         Ok(Some(octets))
     } else {
         Ok(None)
@@ -79,8 +79,8 @@ fn read_coding(text: &[u8]) -> Option<NameCoding>
     None
 }
 
-fn read_place(text: &[u8]) -> Option<MetaPlace>
-    ensures { result ≡ place_in text.now }
+fn read_meta_place(text: &[u8]) -> Option<MetaPlace>
+    ensures { result ≡ meta_place_in text.now }
 {
     if text == b"header".as_slice() {
         return Some(MetaPlace::Header);
@@ -101,14 +101,14 @@ fn names_of(octets: &[u8]) -> Result<(NameCoding, &[u8]), LineError>
     Ok((names, rest))
 }
 
-fn place_of(octets: &[u8]) -> Result<(MetaPlace, &[u8]), LineError>
-    ensures { Gives (λ x. (x.0, x.1.now)) result (field_at (codes "meta ") place_in octets.now) }
+fn meta_place_of(octets: &[u8]) -> Result<(MetaPlace, &[u8]), LineError>
+    ensures { Gives (λ x. (x.0, x.1.now)) result (field_at (codes "meta ") meta_place_in octets.now) }
 {
     let (text, rest) = word_line(b"meta ", octets)?;
-    let Some(place) = read_place(text) else {
+    let Some(meta_place) = read_meta_place(text) else {
         return Err(LineError::Wrong(octets.len()));
     };
-    Ok((place, rest))
+    Ok((meta_place, rest))
 }
 
 /// The passphrase and the salts, and the octets behind their lines.
@@ -133,11 +133,11 @@ pub fn making_of(octets: &[u8]) -> Result<(Making, &[u8]), LineError>
     ensures { Gives (λ x. (x.0, x.1.now)) result (making_at octets.now) }
 {
     let (names, rest) = names_of(octets)?;
-    let (place, rest) = place_of(rest)?;
+    let (meta_place, rest) = meta_place_of(rest)?;
     let (random, rest) = octets_of::<32>(b"random ", rest)?;
     let making = Making {
         names,
-        place,
+        meta_place,
         random,
     };
     Ok((making, rest))

@@ -1,12 +1,11 @@
--- Reading one value after the other, as a loop does.
-use Rattle.std.proofs.Common.{◌≡◌, ℕ, ◌<◌, List, [], ◌∷◌, ◌++◌, length, Option, Some, None, refl, sym, ap, ◌∙◌, append_assoc}
+-- Values that are read one behind another.
+use Rattle.std.proofs.Common.{◌≡◌, ℕ, List, [], ◌∷◌, ◌++◌, length, Option, Some, None, refl, sym, ap, ◌∙◌, append_assoc}
 use Rattle.std.specs.Option.{option_map}
 use Rattle.std.specs.List.{slice_split}
 use Rattle.std.proofs.lemmas.List.{append-nil, nil_from_length}
 use Rattle.line_reader.specs.Lines.{cut_in}
-use Rattle.line_reader.specs.Fields.{octet_in, octets_in, each_in, ◌>>=◌}
+use Rattle.line_reader.specs.Fields.{put, octets_in, each_in, ◌>>=◌}
 use Rattle.line_reader.proofs.Cutting.{is_at, split_more, split_last}
-use Rattle.line_reader.proofs.NameReader.{octets_more, octets_stop}
 
 -- what was read before, and what is still read
 abbrev pub with_front : {A : Type 0} → List A → Option (List A) → Option (List A)
@@ -21,11 +20,11 @@ front_all front = ap Some (append-nil front)
 
 -- ---- octets of a name
 
-pub octet_goes_on : (front text : List ℕ) (c : ℕ) (rest : List ℕ) (total : Option (List ℕ)) → octet_in text ≡ Some (c, rest) → with_front front (octets_in text) ≡ total → with_front (front ++ c ∷ []) (octets_in rest) ≡ total
-octet_goes_on front text c rest total e so_far = sym (front_more front c (octets_in rest)) ∙ ap (with_front front) (sym (octets_more text c rest e)) ∙ so_far
+pub octet_goes_on : (front text : List ℕ) (c : ℕ) (rest : List ℕ) (total : Option (List ℕ)) → octets_in text ≡ put c (octets_in rest) → with_front front (octets_in text) ≡ total → with_front (front ++ c ∷ []) (octets_in rest) ≡ total
+octet_goes_on front text c rest total e so_far = sym (front_more front c (octets_in rest)) ∙ ap (with_front front) (sym e) ∙ so_far
 
-pub octet_stops : (front text : List ℕ) (total : Option (List ℕ)) → 0 < length text → octet_in text ≡ None → with_front front (octets_in text) ≡ total → total ≡ None
-octet_stops front text total some e so_far = sym so_far ∙ ap (with_front front) (octets_stop text some e)
+pub octet_stops : (front text : List ℕ) (total : Option (List ℕ)) → octets_in text ≡ None → with_front front (octets_in text) ≡ total → total ≡ None
+octet_stops front text total e so_far = sym so_far ∙ ap (with_front front) e
 
 pub octets_done : (front text : List ℕ) (total : Option (List ℕ)) → length text ≡ 0 → with_front front (octets_in text) ≡ total → total ≡ Some front
 unfolding octets_in

@@ -8,11 +8,12 @@ use Rattle.std.proofs.lemmas.Bool.Decides.{nat_tests}
 use Rattle.hex.specs.declared.error.FromHexError.{FromHexError}
 use Rattle.hex.specs.Hex.{decode_of, decode_pairs, decode_sized, digit_or_error, hex_digit_value, encode_lower, encode_with, lower_digits, pair_value, value_at, ◌>>=◌}
 use Rattle.hex.proofs.HexLemmas.{decode_of-even, decode_of-ok, decode_of-encode_lower, decode_sized-ok, decode_sized-twice, decode_sized-encode_lower}
-use Rattle.octet_model.specs.Octets.{AreOctets}
+use Rattle.octet_model.specs.Octets.{AreOctets, HasOctets}
+use Rattle.octet_model.proofs.Octets.{octet_at, AreOctets-from_each}
 use Rattle.text_model.specs.Line.{hex}
-use Rattle.line_reader.specs.Fields.{AreSized, is_hex_digit, hex_in, sized_hex_in}
+use Rattle.line_reader.specs.Fields.{is_hex_digit, hex_in, sized_hex_in}
 use Rattle.line_reader.proofs.Readers.{IsReader, guard_some}
-use Rattle.line_reader.proofs.Words.{is_word, octet_at, AreOctets-from_each}
+use Rattle.line_reader.proofs.Words.{is_word}
 
 -- ---- digits
 
@@ -129,11 +130,11 @@ hex_reader = record { found = found; again = again }
     again : (octets : List ℕ) → AreOctets octets → hex_in (hex octets) ≡ Some octets
     again octets fits = rw ((hex_digits octets fits).0, decode_of-encode_lower octets (λ i. octet_at octets i fits)) refl
 
-pub sized_hex_reader : (count : ℕ) → IsReader (sized_hex_in count) hex (AreSized count)
+pub sized_hex_reader : (count : ℕ) → IsReader (sized_hex_in count) hex (HasOctets count)
 unfolding sized_hex_in
 sized_hex_reader count = record { found = found; again = again }
   where
-    found : (text octets : List ℕ) → sized_hex_in count text ≡ Some octets → (text ≡ hex octets) × AreSized count octets
+    found : (text octets : List ℕ) → sized_hex_in count text ≡ Some octets → (text ≡ hex octets) × HasOctets count octets
     found text octets e =
         let g = guard_some (list_all is_hex_digit text) (result_ok (decode_sized text count)) octets e in
         let ok = is_ok (decode_sized text count) octets g.1 in
@@ -141,7 +142,7 @@ sized_hex_reader count = record { found = found; again = again }
         let all = sym (decode_sized-twice text count len) ∙ ok in
         let twice = (decode_of-ok text octets all).2 in
         let d = decoded text octets g.0 all in
-        (d.0, (omega (arith, len, twice), d.1))
+        (d.0, record { length_is = omega (arith, len, twice); octets = d.1 })
 
-    again : (octets : List ℕ) → AreSized count octets → sized_hex_in count (hex octets) ≡ Some octets
-    again octets fits = rw ((hex_digits octets fits.1).0, decode_sized-encode_lower octets count fits.0 (λ i. octet_at octets i fits.1)) refl
+    again : (octets : List ℕ) → HasOctets count octets → sized_hex_in count (hex octets) ≡ Some octets
+    again octets fits = rw ((hex_digits octets fits.octets).0, decode_sized-encode_lower octets count fits.length_is (λ i. octet_at octets i fits.octets)) refl

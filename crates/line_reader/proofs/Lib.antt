@@ -4,5 +4,5 @@ pub mod NumberReader
 pub mod HexReader
 pub mod Cutting
 pub mod NameReader
-pub mod Loops
+pub mod FieldsInARow
 pub mod PathReader

@@ -1,14 +1,16 @@
 -- Names are read as they are spelled.
-use Rattle.std.proofs.Common.{◌≡◌, ℕ, ◌<◌, Bool, true, false, cond, ltb, List, [], ◌∷◌, ◌++◌, length, Option, Some, None, refl, ap, ◌∙◌, arith, inl, inr}
+use Rattle.std.proofs.Common.{◌≡◌, ℕ, ◌-◌, ◌<◌, ◌≤◌, Bool, true, false, cond, get_or, List, [], ◌∷◌, ◌++◌, length, take, drop, Option, Some, None, refl, sym, ap, ◌∙◌, arith, inl, inr}
 use Rattle.std.specs.Prelude.{◌==◌, ◌⊎◌, slice_index}
 use Rattle.std.specs.List.{list_all}
-use Rattle.std.proofs.lemmas.Bool.{and_parts, eqb-true, ltb-true, le-ltb, cases_Bool}
+use Rattle.std.proofs.lemmas.Bool.{eqb-true, ne_eqb, cases_Bool}
+use Rattle.std.proofs.lemmas.List.{take_all}
 use Rattle.std.proofs.lemmas.Option.{none-some, same_Some}
 use Rattle.hex.specs.Hex.{encode_with}
 use Rattle.octet_model.specs.Octets.{AreOctets}
-use Rattle.lower_model.specs.Name.{is_name, is_name_octet}
+use Rattle.lower_model.specs.Name.{is_name}
+use Rattle.lower_model.proofs.NameOctets.{AreOctets-name}
 use Rattle.text_model.specs.Line.{hex, is_plain, name, name_octet}
-use Rattle.line_reader.specs.Fields.{IsName, sized_hex_in, escaped, octet_in, put, put_escaped, octets_in, name_in, ◌>>=◌}
+use Rattle.line_reader.specs.Fields.{IsName, sized_hex_in, escaped_in, put, octets_in, name_in, ◌>>=◌}
 use Rattle.line_reader.proofs.Readers.{IsReader, bind_some, guard_some, unless_some}
 use Rattle.line_reader.proofs.Words.{is_word, both}
 use Rattle.line_reader.proofs.HexReader.{sized_hex_reader, hex_digits}
@@ -39,17 +41,23 @@ spelled_escaped : (octet high low : ℕ) (rest others octets : List ℕ) → is_
 spelled_escaped octet high low rest others octets q digits e made =
     rw (← made, q) (ap (λ (t : List ℕ). 37 ∷ (high ∷ low ∷ t)) e ∙ ap (λ (t : List ℕ). 37 ∷ (t ++ name others)) digits)
 
-escaped_found : (c high low : ℕ) (rest octets : List ℕ) → cond (c == 37) (sized_hex_in 1 (high ∷ low ∷ []) >>= λ octet. put_escaped octet (octets_in rest)) None ≡ Some octets
+-- the digits of an octet that doesn't stand for itself
+escaped_is : (digits : List ℕ) (octet : ℕ) → escaped_in digits ≡ Some octet → (digits ≡ hex (octet ∷ [])) × (is_plain octet ≡ false)
+escaped_is digits octet e =
+    let b = bind_some (sized_hex_in 1 digits) (λ octets. cond (is_plain (slice_index octets 0)) None (Some (slice_index octets 0))) octet e in
+    let u = unless_some (is_plain (slice_index b.0 0)) (Some (slice_index b.0 0)) octet b.2 in
+    let is = same_Some (slice_index b.0 0) octet u.1 in
+    let f = (sized_hex_reader 1).found digits b.0 b.1 in
+    (f.0 ∙ ap hex (one_octet b.0 f.1.length_is) ∙ ap (λ (o : ℕ). hex (o ∷ [])) is, ap is_plain (sym is) ∙ u.0)
+
+escaped_found : (c high low : ℕ) (rest octets : List ℕ) → cond (c == 37) (escaped_in (high ∷ low ∷ []) >>= λ octet. put octet (octets_in rest)) None ≡ Some octets
     → ((others : List ℕ) → octets_in rest ≡ Some others → rest ≡ name others) → c ∷ high ∷ low ∷ rest ≡ name octets
 escaped_found c high low rest octets e by =
-    let g = guard_some (c == 37) (sized_hex_in 1 (high ∷ low ∷ []) >>= λ octet. put_escaped octet (octets_in rest)) octets e in
-    let b = bind_some (sized_hex_in 1 (high ∷ low ∷ [])) (λ octet. put_escaped octet (octets_in rest)) octets g.1 in
-    let u = unless_some (is_plain (slice_index b.0 0)) (put (slice_index b.0 0) (octets_in rest)) octets b.2 in
-    let digits = (sized_hex_reader 1).found (high ∷ low ∷ []) b.0 b.1 in
-    let one = one_octet b.0 digits.1.0 in
-    let two : high ∷ low ∷ [] ≡ hex (slice_index b.0 0 ∷ []) = digits.0 ∙ ap hex one in
-    let others = put_some (slice_index b.0 0) (octets_in rest) octets u.1 in
-    ap (λ (k : ℕ). k ∷ high ∷ low ∷ rest) (eqb-true c 37 g.0) ∙ spelled_escaped (slice_index b.0 0) high low rest others.0 octets u.0 two (by others.0 others.1) others.2
+    let g = guard_some (c == 37) (escaped_in (high ∷ low ∷ []) >>= λ octet. put octet (octets_in rest)) octets e in
+    let b = bind_some (escaped_in (high ∷ low ∷ [])) (λ octet. put octet (octets_in rest)) octets g.1 in
+    let is = escaped_is (high ∷ low ∷ []) b.0 b.1 in
+    let others = put_some b.0 (octets_in rest) octets b.2 in
+    ap (λ (k : ℕ). k ∷ high ∷ low ∷ rest) (eqb-true c 37 g.0) ∙ spelled_escaped b.0 high low rest others.0 octets is.1 is.0 (by others.0 others.1) others.2
 
 octets_found : (text octets : List ℕ) → octets_in text ≡ Some octets → text ≡ name octets
 unfolding octets_in
@@ -61,79 +69,62 @@ octets_found (c ∷ d ∷ []) octets e =
     let g = guard_some (is_plain c) (put c (octets_in (d ∷ []))) octets e in
     plain_found c (d ∷ []) octets g.0 g.1 (λ others h. octets_found (d ∷ []) others h)
 octets_found (c ∷ high ∷ low ∷ rest) octets e =
-    elim (chosen (is_plain c) (put c (octets_in (high ∷ low ∷ rest))) (cond (c == 37) (sized_hex_in 1 (high ∷ low ∷ []) >>= λ octet. put_escaped octet (octets_in rest)) None) (Some octets) e) [
+    elim (chosen (is_plain c) (put c (octets_in (high ∷ low ∷ rest))) (cond (c == 37) (escaped_in (high ∷ low ∷ []) >>= λ octet. put octet (octets_in rest)) None) (Some octets) e) [
       | inl p ↦ plain_found c (high ∷ low ∷ rest) octets p.0 p.1 (λ others h. octets_found (high ∷ low ∷ rest) others h)
       | inr q ↦ escaped_found c high low rest octets q.1 (λ others h. octets_found rest others h)
     ]
 
 -- ---- what is spelled is read
 
-abbrev then_others : Option (ℕ × List ℕ) → Option (List ℕ)
-then_others None = None
-then_others (Some x) = put x.0 (octets_in x.1)
+-- an octet that stands for itself
+plain_first : (c : ℕ) (rest : List ℕ) → is_plain c ≡ true → octets_in (c ∷ rest) ≡ put c (octets_in rest)
+unfolding octets_in
+plain_first c [] p = rw p refl
+plain_first c (d ∷ []) p = rw p refl
+plain_first c (high ∷ low ∷ rest) p = rw p refl
 
--- a text is read octet by octet
-octets_by : (c : ℕ) (rest : List ℕ) → octets_in (c ∷ rest) ≡ then_others (octet_in (c ∷ rest))
-unfolding octets_in octet_in
-octets_by c [] =
-    elim (cases_Bool (is_plain c)) [
-      | inl p ↦ rw p refl
-      | inr q ↦ elim (cases_Bool (c == 37)) [ inl e ↦ rw (q, e) refl | inr n ↦ rw (q, n) refl ]
-    ]
-octets_by c (d ∷ []) =
-    elim (cases_Bool (is_plain c)) [
-      | inl p ↦ rw p refl
-      | inr q ↦ elim (cases_Bool (c == 37)) [ inl e ↦ rw (q, e) refl | inr n ↦ rw (q, n) refl ]
-    ]
-octets_by c (high ∷ low ∷ rest) =
-    let long : ltb (length (high ∷ low ∷ rest)) 2 ≡ false = le-ltb (length (high ∷ low ∷ rest)) 2 (omega arith) in
-    elim (cases_Bool (is_plain c)) [
-      | inl p ↦ rw p refl
-      | inr q ↦
-          elim (cases_Bool (c == 37)) [
-            | inl e ↦ rw (q, e, long) (escape (sized_hex_in 1 (high ∷ low ∷ [])))
-            | inr n ↦ rw (q, n) refl
-          ]
-    ]
-  where
-    plain : (octet : List ℕ) (test : Bool) → cond test None (put (slice_index octet 0) (octets_in rest)) ≡ then_others (cond test None (Some (slice_index octet 0, rest)))
-    plain octet true = refl
-    plain octet false = refl
+pub plain_text : (text : List ℕ) → 0 < length text → is_plain (get_or text 0 0) ≡ true → octets_in text ≡ put (get_or text 0 0) (octets_in (take (length text - 1) (drop 1 text)))
+plain_text [] some p = absurd (omega (arith, some))
+plain_text (c ∷ rest) some p = plain_first c rest p ∙ ap (λ (t : List ℕ). put c (octets_in t)) (sym (take_all (length (c ∷ rest) - 1) rest (omega arith)))
 
-    escape : (o : Option (List ℕ)) → (o >>= λ octet. put_escaped octet (octets_in rest)) ≡ then_others (o >>= λ octet. escaped octet rest)
-    escape None = refl
-    escape (Some octet) = plain octet (is_plain (slice_index octet 0))
+-- an octet that begins no spelling
+other_first : (c : ℕ) (rest : List ℕ) → is_plain c ≡ false → (c == 37) ≡ false → octets_in (c ∷ rest) ≡ None
+unfolding octets_in
+other_first c [] p q = rw p refl
+other_first c (d ∷ []) p q = rw p refl
+other_first c (high ∷ low ∷ rest) p q = rw (p, q) refl
 
-pub octets_more : (text : List ℕ) (c : ℕ) (rest : List ℕ) → octet_in text ≡ Some (c, rest) → octets_in text ≡ put c (octets_in rest)
-unfolding octet_in
-octets_more [] c rest e = absurd (none-some (c, rest) e)
-octets_more (d ∷ text) c rest e = octets_by d text ∙ ap then_others e
+pub other_text : (text : List ℕ) → 0 < length text → is_plain (get_or text 0 0) ≡ false → (get_or text 0 0 ≡ 37 → ⊥) → octets_in text ≡ None
+other_text [] some p q = absurd (omega (arith, some))
+other_text (c ∷ rest) some p q = other_first c rest p (ne_eqb c 37 q)
 
-pub octets_stop : (text : List ℕ) → 0 < length text → octet_in text ≡ None → octets_in text ≡ None
-octets_stop [] some e = absurd (omega (arith, some))
-octets_stop (c ∷ rest) some e = octets_by c rest ∙ ap then_others e
+-- a percent sign and two digits, or fewer
+pub escaped_first : (text : List ℕ) (octet : ℕ) → 2 ≤ length text → escaped_in (take 2 text) ≡ Some octet → octets_in (37 ∷ text) ≡ put octet (octets_in (drop 2 text))
+unfolding octets_in
+escaped_first [] octet two e = absurd (omega (arith, two))
+escaped_first (d ∷ []) octet two e = absurd (omega (arith, two))
+escaped_first (high ∷ low ∷ rest) octet two e = ap (λ o. o >>= λ octet. put octet (octets_in rest)) e
 
-plain_again : (c : ℕ) (text : List ℕ) → is_plain c ≡ true → octets_in (c ∷ text) ≡ put c (octets_in text)
-unfolding octet_in
-plain_again c text p = octets_by c text ∙ rw p refl
+pub wrong_digits : (text : List ℕ) → 2 ≤ length text → escaped_in (take 2 text) ≡ None → octets_in (37 ∷ text) ≡ None
+unfolding octets_in
+wrong_digits [] two e = absurd (omega (arith, two))
+wrong_digits (d ∷ []) two e = absurd (omega (arith, two))
+wrong_digits (high ∷ low ∷ rest) two e = ap (λ o. o >>= λ octet. put octet (octets_in rest)) e
+
+pub few_digits : (text : List ℕ) → length text < 2 → octets_in (37 ∷ text) ≡ None
+unfolding octets_in
+few_digits [] few = refl
+few_digits (d ∷ []) few = refl
+few_digits (high ∷ low ∷ rest) few = absurd (omega (arith, few))
 
 octets_again : (octets : List ℕ) → AreOctets octets → octets_in (name octets) ≡ Some octets
 unfolding octets_in encode_with
 octets_again [] fits = refl
 octets_again (x ∷ xs) fits =
     elim (cases_Bool (is_plain x)) [
-      | inl p ↦ rw p (plain_again x (name xs) p ∙ ap (put x) (octets_again xs fits.1))
-      | inr q ↦ rw (q, (sized_hex_reader 1).again (x ∷ []) (refl, (fits.0, tt)), q) (ap (put x) (octets_again xs fits.1))
+      | inl p ↦ rw p (plain_first x (name xs) p ∙ ap (put x) (octets_again xs fits.1))
+      | inr q ↦ rw (q, (sized_hex_reader 1).again (x ∷ []) (record { length_is = refl; octets = (fits.0, tt) }), q) (ap (put x) (octets_again xs fits.1))
     ]
-
-AreOctets-list_all : (octets : List ℕ) → list_all is_name_octet octets ≡ true → AreOctets octets
-AreOctets-list_all [] e = tt
-AreOctets-list_all (x ∷ xs) e =
-    let parts = and_parts (is_name_octet x) (list_all is_name_octet xs) e in
-    (ltb-true x 256 (and_parts _ _ (and_parts _ _ parts.0).0).0, AreOctets-list_all xs parts.1)
-
-pub AreOctets-name : (octets : List ℕ) → is_name octets ≡ true → AreOctets octets
-AreOctets-name octets e = AreOctets-list_all octets (and_parts _ _ (and_parts _ _ e).0).1
 
 pub name_words : (octets : List ℕ) → AreOctets octets → list_all is_word (name octets) ≡ true
 name_words [] fits = refl

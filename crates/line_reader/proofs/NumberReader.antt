@@ -1,5 +1,5 @@
 -- Numbers are read as they are spelled.
-use Rattle.std.proofs.Common.{◌≡◌, ℕ, zero, suc, ◌<◌, ◌≤◌, ◌^◌, Bool, true, false, ltb, get_or, List, [], ◌∷◌, length, Some, None, Result, Ok, Err, refl, sym, ap, ◌∙◌, eq-eqb, arith, inl, inr, rules}
+use Rattle.std.proofs.Common.{◌≡◌, ℕ, zero, suc, ◌-◌, ◌<◌, ◌≤◌, ◌^◌, min, Bool, true, false, ltb, get_or, List, [], ◌∷◌, length, Some, None, Result, Ok, Err, refl, sym, ap, ◌∙◌, eq-eqb, arith, inl, inr, rules}
 use Rattle.std.specs.Prelude.{◌&&◌, ◌||◌, not, ◌==◌}
 use Rattle.std.specs.Fmt.{decimal}
 use Rattle.std.specs.List.{list_all}
@@ -7,14 +7,15 @@ use Rattle.std.specs.Char.{is_ascii_digit}
 use Rattle.std.proofs.lemmas.Bool.{and_parts, ltb-true, lt-ltb, le-ltb, cases_lt, eqb-true}
 use Rattle.std.proofs.lemmas.Option.{cond_some}
 use Rattle.std.proofs.lemmas.Fmt.{decimal-digits_value, digits_decimal, digits_value-decimal, decimal_nonempty, first_decimal, decimal_digit}
-use Rattle.std.specs.Result.{result_ok, OkIff}
+use Rattle.std.specs.Option.{option_map}
+use Rattle.std.specs.Result.{result_ok, result_unwrap_or, OkIff}
 use Rattle.std.specs.Str.{IsUtf8}
 use Rattle.std.specs.Str.Parse.{ParsesUnsigned}
 use Rattle.std.proofs.lemmas.Str.{IsUtf8-from_ascii}
 use Rattle.std.proofs.lemmas.Fmt.{IsAscii-from_digits}
 use Rattle.std.proofs.lemmas.Str.Parse.{IsNumeralModel, numerals_by_fold, parse_digits}
 use Rattle.text_model.specs.Line.{number}
-use Rattle.line_reader.specs.Fields.{IsU64, value_behind, is_number, number_in}
+use Rattle.line_reader.specs.Fields.{IsU64, value_behind, is_number, any_number_in, number_in}
 use Rattle.line_reader.proofs.Readers.{IsReader}
 
 abbrev pub AreDigits : List ℕ → Type 0
@@ -92,3 +93,34 @@ parsed_as text (Err d) e h =
 
 pub parsed : {E : Type 0} (text : List ℕ) (r : Result ℕ E) → is_number text ≡ true → ParsesUnsigned 64 10 text r → result_ok r ≡ number_in text
 parsed text r e h = parsed_as text r e (parse_digits own 64 text r h (numeral_from text e).digits)
+
+-- ---- numbers of any size
+
+pub any_from_number : (text : List ℕ) (n : ℕ) → number_in text ≡ Some n → any_number_in text ≡ Some n
+unfolding number_in any_number_in
+any_from_number text n e =
+    let c = cond_some (is_number text && ltb (value_behind 0 text) (2 ^ 64)) (value_behind 0 text) n e in
+    rw (and_parts (is_number text) (ltb (value_behind 0 text) (2 ^ 64)) c.0).0 (ap Some c.1)
+
+pub number_from_any : (text : List ℕ) (n : ℕ) → n < 2 ^ 64 → any_number_in text ≡ Some n → number_in text ≡ Some n
+unfolding number_in any_number_in
+number_from_any text n fits e =
+    let c = cond_some (is_number text) (value_behind 0 text) n e in
+    rw (c.0, c.1, lt-ltb n (2 ^ 64) fits) refl
+
+-- what is answered of a numeral, where the last u64 stands for greater ones
+saturates_as : {E : Type 0} (text : List ℕ) (r : Result ℕ E) → is_number text ≡ true → OkIff r ((0 < length text) × (value_behind 0 text < 2 ^ 64)) (value_behind 0 text)
+    → Some (result_unwrap_or r (2 ^ 64 - 1)) ≡ option_map (λ n. min n (2 ^ 64 - 1)) (any_number_in text)
+unfolding any_number_in
+saturates_as text (Ok n) e h = let below : min (value_behind 0 text) (2 ^ 64 - 1) ≡ value_behind 0 text = omega (arith, h.0.1) in rw (e, below, h.1) refl
+saturates_as text (Err d) e h =
+    let most : 2 ^ 64 ≤ value_behind 0 text = not_fits (value_behind 0 text) (λ fits. h ((numeral_from text e).some, fits)) in
+    let top : min (value_behind 0 text) (2 ^ 64 - 1) ≡ 2 ^ 64 - 1 = omega (arith, most) in
+    rw (e, top) refl
+
+pub saturates : {E : Type 0} (text : List ℕ) (r : Result ℕ E) → is_number text ≡ true → ParsesUnsigned 64 10 text r → Some (result_unwrap_or r (2 ^ 64 - 1)) ≡ option_map (λ n. min n (2 ^ 64 - 1)) (any_number_in text)
+saturates text r e h = saturates_as text r e (parse_digits own 64 text r h (numeral_from text e).digits)
+
+pub no_number_of_any_size : (text : List ℕ) → is_number text ≡ false → any_number_in text ≡ None
+unfolding any_number_in
+no_number_of_any_size text e = rw e refl

@@ -14,7 +14,8 @@ use Rattle.line_reader.specs.Fields.{IsName, each_in, name_in, path_in, â—Œ>>=â—
 use Rattle.line_reader.proofs.Readers.{IsReader, bind_some, unless_some}
 use Rattle.line_reader.proofs.Words.{is_word, is_other, is_absent, weaker}
 use Rattle.line_reader.proofs.Cutting.{is_at}
-use Rattle.line_reader.proofs.NameReader.{chosen, AreOctets-name, name_words, name_reader}
+use Rattle.lower_model.proofs.NameOctets.{AreOctets-name}
+use Rattle.line_reader.proofs.NameReader.{chosen, name_words, name_reader}
 
 -- ---- fields in a row
 

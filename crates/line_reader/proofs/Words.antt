@@ -1,11 +1,10 @@
--- Texts in which an octet doesn't stand, and lists of octets.
-use Rattle.std.proofs.Common.{◌≡◌, ℕ, zero, suc, ◌<◌, Bool, true, false, get_or, List, [], ◌∷◌, ◌++◌, refl, ap, ◌∙◌, arith}
+-- Texts in which an octet doesn't stand.
+use Rattle.std.proofs.Common.{◌≡◌, ℕ, zero, suc, ◌<◌, Bool, true, false, List, [], ◌∷◌, ◌++◌, refl, ap, ◌∙◌, arith}
 use Rattle.std.specs.Prelude.{◌&&◌, ◌||◌, not, ◌==◌, All}
 use Rattle.std.specs.List.{list_all, AllByRecursion}
 use Rattle.std.proofs.lemmas.Bool.{and_parts}
 use Rattle.std.proofs.lemmas.List.Folds.{list_all-append}
 use Rattle.std.proofs.lemmas.List.Elements.{All-from_recursion}
-use Rattle.octet_model.specs.Octets.{AreOctets}
 use Rattle.text_model.specs.Line.{is_plain}
 
 -- The octets that numbers, octets in hexadecimal and names are spelled with: no blank, slash or line end.
@@ -37,15 +36,6 @@ absent_each octet (x ∷ xs) e =
 -- where an octet doesn't stand
 pub is_absent : (octet : ℕ) (xs : List ℕ) → list_all (is_other octet) xs ≡ true → All (λ c. (c == octet) ≡ false) xs
 is_absent octet xs e = All-from_recursion (λ c. (c == octet) ≡ false) xs (absent_each octet xs e)
-
-pub octet_at : (octets : List ℕ) (i : ℕ) → AreOctets octets → get_or octets i 0 < 256
-octet_at [] i fits = omega arith
-octet_at (x ∷ xs) zero fits = fits.0
-octet_at (x ∷ xs) (suc i) fits = octet_at xs i fits.1
-
-pub AreOctets-from_each : (octets : List ℕ) → ((i : ℕ) → get_or octets i 0 < 256) → AreOctets octets
-AreOctets-from_each [] each = tt
-AreOctets-from_each (x ∷ xs) each = (each 0, AreOctets-from_each xs (λ i. each (suc i)))
 
 pub is_some : (n : ℕ) → (n == 0) ≡ false → 0 < n
 is_some zero e = absurd cc

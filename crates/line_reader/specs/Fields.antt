@@ -1,11 +1,10 @@
 -- How a field of a line is read.
-use Rattle.std.specs.Prelude.{ℕ, ◌≡◌, ◌<◌, ◌+◌, ◌-◌, ◌*◌, ◌^◌, List, [], ◌∷◌, length, take, drop, slice_index, Option, Some, None, Bool, IsTrue, false, not, nat_lt, nat_le, ◌==◌, ◌&&◌, ◌||◌, if◌then◌else◌}
+use Rattle.std.specs.Prelude.{ℕ, ◌≡◌, ◌<◌, ◌+◌, ◌-◌, ◌*◌, ◌^◌, List, [], ◌∷◌, length, slice_index, Option, Some, None, option_and_then, MatchOption, Bool, IsTrue, false, not, nat_lt, nat_le, ◌==◌, ◌&&◌, ◌||◌, if◌then◌else◌}
 use Rattle.std.specs.List.{list_all, slice_split}
 use Rattle.std.specs.Char.{is_ascii_digit}
 use Rattle.std.specs.Option.{option_map}
 use Rattle.std.specs.Result.{result_ok}
 use Rattle.hex.specs.Hex.{decode_of, decode_sized}
-use Rattle.octet_model.specs.Octets.{AreOctets}
 use Rattle.lower_model.specs.Name.{is_name}
 use Rattle.text_model.specs.Line.{is_plain}
 
@@ -16,8 +15,7 @@ Reads {A} spell Fits text None = (value : A) → Fits value → text ≡ spell v
 
 infixl 10 ◌>>=◌
 abbrev pub ◌>>=◌ : {A B : Type 0} → Option A → (A → Option B) → Option B
-None >>= f = None
-(Some x) >>= f = f x
+o >>= f = option_and_then f o
 
 -- ---- numbers
 
@@ -34,14 +32,15 @@ abbrev pub is_number : List ℕ → Bool
 is_number [] = false
 is_number (c ∷ cs) = list_all is_ascii_digit (c ∷ cs) && (not (c == 48) || length cs == 0)
 
+-- a number of any size
+unfoldable pub any_number_in : List ℕ → Option ℕ
+any_number_in text = if is_number text then Some (value_behind 0 text) else None
+
+-- a number below 2^64
 unfoldable pub number_in : List ℕ → Option ℕ
 number_in text = if is_number text && nat_lt (value_behind 0 text) (2 ^ 64) then Some (value_behind 0 text) else None
 
 -- ---- octets in hexadecimal
-
--- this many octets
-abbrev pub AreSized : ℕ → List ℕ → Type 0
-AreSized count octets = (length octets ≡ count) × AreOctets octets
 
 abbrev pub is_hex_digit : ℕ → Bool
 is_hex_digit c = (nat_le 48 c && nat_le c 57) || (nat_le 97 c && nat_le c 102)
@@ -58,23 +57,13 @@ sized_hex_in count text = if list_all is_hex_digit text then result_ok (decode_s
 abbrev pub IsName : List ℕ → Type 0
 IsName name = IsTrue (is_name name)
 
--- An octet that is spelled by its digits is none that stands for itself.
-abbrev pub escaped : List ℕ → List ℕ → Option (ℕ × List ℕ)
-escaped octet rest = if is_plain (slice_index octet 0) then None else Some (slice_index octet 0, rest)
+-- the octet that two digits spell, which is none that stands for itself
+abbrev pub escaped_in : List ℕ → Option ℕ
+escaped_in digits = sized_hex_in 1 digits >>= λ octet. if is_plain (slice_index octet 0) then None else Some (slice_index octet 0)
 
-abbrev pub escaped_in : List ℕ → Option (ℕ × List ℕ)
-escaped_in text = if nat_lt (length text) 2 then None else (sized_hex_in 1 (take 2 text) >>= λ octet. escaped octet (drop 2 text))
-
--- the octet whose spelling a text begins with, and what stands behind it
-unfoldable pub octet_in : List ℕ → Option (ℕ × List ℕ)
-octet_in [] = None
-octet_in (c ∷ rest) = if is_plain c then Some (c, rest) else if c == 37 then escaped_in rest else None
-
+-- an octet, and what is read behind it
 abbrev pub put : ℕ → Option (List ℕ) → Option (List ℕ)
 put octet octets = option_map (λ list. octet ∷ list) octets
-
-abbrev pub put_escaped : List ℕ → Option (List ℕ) → Option (List ℕ)
-put_escaped octet octets = if is_plain (slice_index octet 0) then None else put (slice_index octet 0) octets
 
 -- the octets that a whole text spells
 unfoldable pub octets_in : List ℕ → Option (List ℕ)
@@ -82,7 +71,11 @@ octets_in [] = Some []
 octets_in (c ∷ []) = if is_plain c then Some (c ∷ []) else None
 octets_in (c ∷ d ∷ []) = if is_plain c then put c (octets_in (d ∷ [])) else None
 octets_in (c ∷ high ∷ low ∷ rest) =
-    if is_plain c then put c (octets_in (high ∷ low ∷ rest)) else if c == 37 then (sized_hex_in 1 (high ∷ low ∷ []) >>= λ octet. put_escaped octet (octets_in rest)) else None
+    if is_plain c then put c (octets_in (high ∷ low ∷ rest)) else if c == 37 then (escaped_in (high ∷ low ∷ []) >>= λ octet. put octet (octets_in rest)) else None
+
+-- The octet that is spelled first, and what stands behind it; none where no octet is spelled first.
+abbrev pub IsFirstOctet : List ℕ → Option (ℕ × List ℕ) → Type 0
+IsFirstOctet text first = MatchOption first (octets_in text ≡ None) (λ x. octets_in text ≡ put x.0 (octets_in x.1))
 
 abbrev pub name_in : List ℕ → Option (List ℕ)
 name_in text = octets_in text >>= λ octets. if is_name octets then Some octets else None

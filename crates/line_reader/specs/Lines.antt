@@ -5,7 +5,7 @@ use Rattle.std.specs.Option.{option_map}
 
 -- what stands before the first such octet, and what stands behind it
 unfoldable pub cut_in : ℕ → List ℕ → Option (List ℕ × List ℕ)
-cut_in octet text = option_map (λ place. (take place text, drop (place + 1) text)) (position (λ c. c == octet) text)
+cut_in octet text = option_map (λ index. (take index text, drop (index + 1) text)) (position (λ c. c == octet) text)
 
 -- the first line, without its line end, and what stands behind it
 abbrev pub line_in : List ℕ → Option (List ℕ × List ℕ)

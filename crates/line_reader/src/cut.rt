@@ -3,7 +3,7 @@ ghost use Rattle.std.specs.List.{position};
 ghost use Rattle.std.specs.Option.{option_map};
 ghost use Rattle.line_reader.specs.Lines.{cut_in, line_in};
 
-fn place_of(octet: u8, text: &[u8]) -> Option<usize>
+fn index_of(octet: u8, text: &[u8]) -> Option<usize>
     ensures value { result ≡ position (λ c. c == octet) text.now }
 {
     text.iter().position(|c| *c == octet)
@@ -15,7 +15,7 @@ pub fn cut_at(octet: u8, text: &[u8]) -> Option<(&[u8], &[u8])>
     ensures cut { option_map (λ x. (x.0.now, x.1.now)) result ≡ cut_in octet text.now }
     ensures shorter { IfSome result (λ x. length x.0.now + length x.1.now + 1 ≡ length text.now) }
 {
-    let end = place_of(octet, text)?;
+    let end = index_of(octet, text)?;
     Some((&text[..end], &text[end + 1..]))
 }
 

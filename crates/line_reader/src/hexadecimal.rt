@@ -1,9 +1,8 @@
 ghost use Rattle.std.specs.Prelude.{◌≡◌, IfOk};
-ghost use Rattle.std.specs.Option.{option_map};
 ghost use Rattle.std.specs.List.{list_all};
-ghost use Rattle.octet_model.specs.Octets.{AreOctets};
+ghost use Rattle.octet_model.specs.Octets.{AreOctets, HasOctets};
 ghost use Rattle.text_model.specs.Line.{hex};
-ghost use Rattle.line_reader.specs.Fields.{Reads, AreSized, is_hex_digit, hex_in, sized_hex_in};
+ghost use Rattle.line_reader.specs.Fields.{Reads, is_hex_digit, hex_in, sized_hex_in};
 
 use hex::{FromHex, FromHexError};
 use lower_model::Items;
@@ -49,7 +48,7 @@ fn array_of<const N: usize>(text: &[u8]) -> Option<[u8; N]>
 
 /// The octets that a text spells in lower-case hexadecimal, exactly `N` of them.
 pub fn read_hex_array<const N: usize>(text: &[u8]) -> Option<[u8; N]>
-    ensures reads { Reads hex (AreSized N) text.now result }
+    ensures reads { Reads hex (HasOctets N) text.now result }
     ensures value { result ≡ sized_hex_in N text.now }
 {
     array_of(text)

@@ -10,7 +10,7 @@ mod path;
 pub use cut::{cut_at, first_line};
 pub use hexadecimal::{read_hex, read_hex_array};
 pub use name::read_name;
-pub use number::read_number;
+pub use number::{read_number, read_saturated};
 pub use path::read_path;
 
 #[cfg(test)]

@@ -1,7 +1,7 @@
-ghost use Rattle.std.specs.Prelude.{◌≡◌, ◌<◌, length, IfOk, IfSome};
+ghost use Rattle.std.specs.Prelude.{◌≡◌, ◌<◌, ◌∷◌, length, IfOk, IfSome};
 ghost use Rattle.std.specs.Option.{option_map};
 ghost use Rattle.text_model.specs.Line.{name, is_plain as plain_test};
-ghost use Rattle.line_reader.specs.Fields.{Reads, IsName, escaped_in, octet_in, octets_in, name_in};
+ghost use Rattle.line_reader.specs.Fields.{Reads, IsName, IsFirstOctet, escaped_in, octets_in, name_in};
 
 use crate::read_hex_array;
 use std::alloc::{AllocError, Global};
@@ -13,25 +13,33 @@ fn is_plain(c: u8) -> bool
     b'!' <= c && c <= b'~' && !(c == b'%') && !(c == b'/')
 }
 
-fn escaped_octet(text: &[u8]) -> Option<(u8, &[u8])>
-    ensures octet { option_map (λ x. (x.0, x.1.now)) result ≡ escaped_in text.now }
+// The octet that the two digits behind a percent sign spell.
+fn escaped_octet(digits: &[u8]) -> Option<u8>
+    ensures { result ≡ escaped_in digits.now }
+{
+    let [octet] = read_hex_array::<1>(digits)?;
+    if is_plain(octet) { None } else { Some(octet) }
+}
+
+// The octet whose digits stand behind a percent sign, and what stands behind them.
+fn octet_behind_percent(text: &[u8]) -> Option<(u8, &[u8])>
+    ensures octet { IsFirstOctet (37 ∷ text.now) (option_map (λ x. (x.0, x.1.now)) result) }
     ensures shorter { IfSome result (λ x. length x.1.now < length text.now) }
 {
     if text.len() < 2 {
         return None;
     }
     let (digits, rest) = text.split_at(2);
-    let [octet] = read_hex_array::<1>(digits)?;
-    if is_plain(octet) {
+    let Some(octet) = escaped_octet(digits) else {
         return None;
-    }
+    };
     Some((octet, rest))
 }
 
-/// The octet whose spelling a text begins with, and what stands behind it.
-#[tactic(auto, unfolding(crate::specs::Fields::octet_in))]
+// The octet whose spelling a text begins with, and what stands behind it.
 fn first_octet(text: &[u8]) -> Option<(u8, &[u8])>
-    ensures octet { option_map (λ x. (x.0, x.1.now)) result ≡ octet_in text.now }
+    requires { 0 < length text.now }
+    ensures octet { IsFirstOctet text.now (option_map (λ x. (x.0, x.1.now)) result) }
     ensures shorter { IfSome result (λ x. length x.1.now < length text.now) }
 {
     match text {
@@ -41,7 +49,7 @@ fn first_octet(text: &[u8]) -> Option<(u8, &[u8])>
                 return Some((*first, rest));
             }
             if *first == b'%' {
-                return escaped_octet(rest);
+                return octet_behind_percent(rest);
             }
             None
         }

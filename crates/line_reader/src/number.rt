@@ -1,8 +1,9 @@
-ghost use Rattle.std.specs.Prelude.{◌≡◌};
+ghost use Rattle.std.specs.Prelude.{◌≡◌, ℕ, min};
 ghost use Rattle.std.specs.List.{list_all};
 ghost use Rattle.std.specs.Char.{is_ascii_digit};
 ghost use Rattle.text_model.specs.Line.{number};
-ghost use Rattle.line_reader.specs.Fields.{Reads, IsU64, is_number as number_test, number_in};
+ghost use Rattle.std.specs.Option.{option_map};
+ghost use Rattle.line_reader.specs.Fields.{Reads, IsU64, is_number as number_test, any_number_in, number_in};
 
 use std::str;
 
@@ -39,4 +40,17 @@ pub fn read_number(text: &[u8]) -> Option<u64>
     ensures value { result ≡ number_in text.now }
 {
     number_of(text)
+}
+
+/// The number that a text spells in decimal, or `u64::MAX` where it spells a greater one.
+pub fn read_saturated(text: &[u8]) -> Option<u64>
+    ensures { result ≡ option_map (λ n. min n u64.MAX) (any_number_in text.now) }
+{
+    if !is_number(text) {
+        return None;
+    }
+    let Ok(digits) = str::from_utf8(text) else {
+        return None;
+    };
+    Some(digits.parse().unwrap_or(u64::MAX))
 }

@@ -1,4 +1,5 @@
-ghost use Rattle.std.specs.Prelude.{◌≡◌, ◌≤◌, [], ◌∷◌, ◌++◌, length, OnOk};
+ghost use Rattle.std.specs.Prelude.{◌≡◌, ◌≤◌, [], ◌∷◌, ◌++◌, length, OnOk, OnErr};
+ghost use Rattle.octet_model.specs.Octets.{BeginsWith};
 ghost use Rattle.text_model.specs.Line.{number, hex};
 
 use itoa::Buffer;
@@ -9,14 +10,16 @@ const PIECE: usize = 1024;
 
 /// Adds a field that stands for itself.
 pub fn put_word(out: &mut Vec<u8>, word: &str) -> Result<(), AllocError>
-    ensures { OnOk result (out.new.items ≡ out.old.items ++ word.now) }
+    ensures ok { OnOk result (out.new.items ≡ out.old.items ++ word.now) }
+    ensures err { OnErr result (out.new.items ≡ out.old.items) }
 {
     out.extend_from_slice(word.as_bytes())
 }
 
 /// Adds a number in decimal, without a leading zero.
 pub fn put_number(out: &mut Vec<u8>, n: u64) -> Result<(), AllocError>
-    ensures { OnOk result (out.new.items ≡ out.old.items ++ number n) }
+    ensures ok { OnOk result (out.new.items ≡ out.old.items ++ number n) }
+    ensures err { OnErr result (out.new.items ≡ out.old.items) }
 {
     let mut digits = Buffer::new();
     out.extend_from_slice(digits.format(n).as_bytes())
@@ -25,7 +28,8 @@ pub fn put_number(out: &mut Vec<u8>, n: u64) -> Result<(), AllocError>
 // Adds the digits of some octets, at most as many as a piece has.
 fn put_hex_piece(out: &mut Vec<u8>, octets: &[u8]) -> Result<(), AllocError>
     requires { length octets.now ≤ PIECE }
-    ensures { OnOk result (out.new.items ≡ out.old.items ++ hex octets.now) }
+    ensures ok { OnOk result (out.new.items ≡ out.old.items ++ hex octets.now) }
+    ensures err { OnErr result (out.new.items ≡ out.old.items) }
 {
     let mut digits = [0; 2 * PIECE];
     let digits = &mut digits[..2 * octets.len()];
@@ -35,7 +39,8 @@ fn put_hex_piece(out: &mut Vec<u8>, octets: &[u8]) -> Result<(), AllocError>
 
 /// Adds octets, each by two lower-case hexadecimal digits.
 pub fn put_hex(out: &mut Vec<u8>, octets: &[u8]) -> Result<(), AllocError>
-    ensures { OnOk result (out.new.items ≡ out.old.items ++ hex octets.now) }
+    ensures ok { OnOk result (out.new.items ≡ out.old.items ++ hex octets.now) }
+    ensures err { OnErr result (BeginsWith out.new.items out.old.items) }
 {
     for piece in octets.chunks(PIECE) {
         put_hex_piece(out, piece)?;
@@ -45,7 +50,8 @@ pub fn put_hex(out: &mut Vec<u8>, octets: &[u8]) -> Result<(), AllocError>
 
 /// Adds the space between two fields.
 pub fn put_space(out: &mut Vec<u8>) -> Result<(), AllocError>
-    ensures { OnOk result (out.new.items ≡ out.old.items ++ 32 ∷ []) }
+    ensures ok { OnOk result (out.new.items ≡ out.old.items ++ 32 ∷ []) }
+    ensures err { OnErr result (out.new.items ≡ out.old.items) }
 {
     out.push(b' ')?;
     Ok(())
@@ -53,7 +59,8 @@ pub fn put_space(out: &mut Vec<u8>) -> Result<(), AllocError>
 
 /// Ends a line.
 pub fn put_line_end(out: &mut Vec<u8>) -> Result<(), AllocError>
-    ensures { OnOk result (out.new.items ≡ out.old.items ++ 10 ∷ []) }
+    ensures ok { OnOk result (out.new.items ≡ out.old.items ++ 10 ∷ []) }
+    ensures err { OnErr result (out.new.items ≡ out.old.items) }
 {
     out.push(b'\n')?;
     Ok(())

@@ -1,5 +1,5 @@
-//! Writes fields and lines behind the octets of an output, as jobs and reports spell them. What a
-//! call that ran out of memory leaves behind the octets that were there is left open.
+//! Writes fields and lines behind the octets of an output, as jobs and reports spell them. After
+//! want of memory the output has what it held, and maybe a part of the field behind it.
 #![tactic(auto)]
 
 mod field;

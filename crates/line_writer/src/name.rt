@@ -1,4 +1,5 @@
-ghost use Rattle.std.specs.Prelude.{◌≡◌, ◌++◌, OnOk};
+ghost use Rattle.std.specs.Prelude.{◌≡◌, ◌++◌, OnOk, OnErr};
+ghost use Rattle.octet_model.specs.Octets.{BeginsWith};
 ghost use Rattle.std.specs.List.{flat_map};
 ghost use Rattle.text_model.specs.Line.{is_plain as plain_test, name_octet, name, slash_name, path as path_text};
 
@@ -12,7 +13,8 @@ fn is_plain(c: u8) -> bool
 }
 
 fn put_octet(out: &mut Vec<u8>, c: u8) -> Result<(), AllocError>
-    ensures { OnOk result (out.new.items ≡ out.old.items ++ name_octet c) }
+    ensures ok { OnOk result (out.new.items ≡ out.old.items ++ name_octet c) }
+    ensures err { OnErr result (BeginsWith out.new.items out.old.items) }
 {
     if is_plain(c) {
         out.push(c)?;
@@ -27,7 +29,8 @@ fn put_octet(out: &mut Vec<u8>, c: u8) -> Result<(), AllocError>
 /// Adds a name: `!` to `~` stand for themselves, but for `%` and the slash, and every other octet
 /// is spelled `%` and its two lower-case hexadecimal digits.
 pub fn put_name(out: &mut Vec<u8>, octets: &[u8]) -> Result<(), AllocError>
-    ensures { OnOk result (out.new.items ≡ out.old.items ++ name octets.now) }
+    ensures ok { OnOk result (out.new.items ≡ out.old.items ++ name octets.now) }
+    ensures err { OnErr result (BeginsWith out.new.items out.old.items) }
 {
     for c in octets {
         put_octet(out, *c)?;
@@ -36,7 +39,8 @@ pub fn put_name(out: &mut Vec<u8>, octets: &[u8]) -> Result<(), AllocError>
 }
 
 fn put_parts(out: &mut Vec<u8>, parts: Parts<'_>) -> Result<(), AllocError>
-    ensures { OnOk result (out.new.items ≡ out.old.items ++ flat_map slash_name parts.entry) }
+    ensures ok { OnOk result (out.new.items ≡ out.old.items ++ flat_map slash_name parts.entry) }
+    ensures err { OnErr result (BeginsWith out.new.items out.old.items) }
 {
     let mut rest = parts;
     while let Some((name, others)) = rest.split_first() {
@@ -49,7 +53,8 @@ fn put_parts(out: &mut Vec<u8>, parts: Parts<'_>) -> Result<(), AllocError>
 
 /// Adds a path: a slash for the root, or a slash and a name for each of its parts.
 pub fn put_path(out: &mut Vec<u8>, path: &Path) -> Result<(), AllocError>
-    ensures { OnOk result (out.new.items ≡ out.old.items ++ path_text path.now) }
+    ensures ok { OnOk result (out.new.items ≡ out.old.items ++ path_text path.now) }
+    ensures err { OnErr result (BeginsWith out.new.items out.old.items) }
 {
     let parts = path.parts();
     if parts.is_empty() {

@@ -3,7 +3,7 @@ ghost use Rattle.std.specs.List.{starts_with};
 ghost use Rattle.lower_model.specs.declared.node.LowerNode.{LowerNode};
 ghost use Rattle.lower_model.specs.LowerTree.{IsLowerTree, root_path};
 ghost use Rattle.image_model.specs.ImageText.{magic, image, root};
-ghost use Rattle.image_model.specs.ImageReading.{entries_at, counted_at, nodes_at, reading, fault_of, HasOffsetWithin};
+ghost use Rattle.image_model.specs.ImageReading.{entries_at, counted_nodes_at, nodes_at, reading, fault_of, HasOffsetWithin};
 ghost use Rattle.answer_model.specs.Answer.{GivesAs};
 ghost use Rattle.lower_image.specs.FieldErrors.{Gives, behind};
 
@@ -48,9 +48,9 @@ fn entries_of(
     Ok((nodes, rest))
 }
 
-#[tactic(auto, unfolding(image_model::specs::ImageReading::counted_at))]
+#[tactic(auto, unfolding(image_model::specs::ImageReading::counted_nodes_at))]
 fn counted_nodes(alloc: Global, octets: &[u8]) -> Result<Vec<LowerNode>, FieldError>
-    ensures { Gives (λ v. v.items) result (counted_at octets.now) }
+    ensures { Gives (λ v. v.items) result (counted_nodes_at octets.now) }
 {
     let (count, rest) = u32_at(octets)?;
     if count as usize > MOST_ENTRIES {

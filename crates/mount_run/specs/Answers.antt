@@ -2,8 +2,8 @@
 use Rattle.std.specs.Prelude.{◌≡◌, ℕ, ◌≤◌, List, length, take, Option, Some}
 use Rattle.std.specs.Io.KnownBytes.{Consumes, IsAtEnd, Appends}
 use Rattle.job_model.specs.declared.job.Job.{Job}
-use Rattle.job_model.specs.JobText.{IsJobText, most_octets}
-use Rattle.job_text.specs.Outcome.{IsNoJob}
+use Rattle.job_model.specs.declared.limits.TheConstants.{MOST_OCTETS}
+use Rattle.job_model.specs.JobText.{IsJobText, IsNoJob}
 use Rattle.served_model.specs.Served.{Served}
 use Rattle.show_model.specs.Show.{Shows}
 use Rattle.mount_run.specs.declared.words.Command.{Command}
@@ -13,7 +13,7 @@ use Rattle.mount_run.specs.Words.{command_of}
 -- These octets were taken from the source, and they are all that it had, unless they are more than a job may have.
 pub record Took (left_old left_new : Option (List ℕ)) (octets : List ℕ) : Type 0 where
   pub taken : Consumes left_old left_new octets
-  pub all : length octets ≤ most_octets → IsAtEnd left_new
+  pub all : length octets ≤ MOST_OCTETS → IsAtEnd left_new
 
 -- what a command promises of its output
 abbrev pub Answers : Command → Job → List ℕ → Type 0

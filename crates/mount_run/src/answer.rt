@@ -1,7 +1,6 @@
 ghost use Rattle.std.specs.Prelude.{◌≡◌, IfOk, Err};
 ghost use Rattle.job_model.specs.declared.job.Job.{Job as JobValue};
-ghost use Rattle.job_model.specs.JobText.{IsJobText};
-ghost use Rattle.job_text.specs.Outcome.{IsNoJob};
+ghost use Rattle.job_model.specs.JobText.{IsJobText, IsNoJob};
 ghost use Rattle.mount_run.specs.Answers.{Answers};
 
 use crate::serve::serve;

@@ -1,8 +1,7 @@
 ghost use Rattle.std.specs.Prelude.{◌≡◌, ◌≤◌, ◌<◌, ◌↔◌, ◌⊎◌, ℕ, List, Some, None, map, string_bytes};
 ghost use Rattle.std.specs.Io.KnownBytes.{Keeps};
 ghost use Rattle.job_model.specs.declared.job.Job.{Job};
-ghost use Rattle.job_model.specs.JobText.{IsJobText};
-ghost use Rattle.job_text.specs.Outcome.{IsNoJob};
+ghost use Rattle.job_model.specs.JobText.{IsJobText, IsNoJob};
 ghost use Rattle.answer_model.specs.Count.{Rose};
 ghost use Rattle.mount_run.specs.declared.words.Command.{Command};
 ghost use Rattle.mount_run.specs.Words.{command_of as command_in};

@@ -7,7 +7,7 @@ use Rattle.tree_model.specs.Shown.{shown, Carries, KeepsFiles}
 use Rattle.session_model.specs.TreeLog.{IsTreeLog}
 use Rattle.session_model.specs.ScriptCalls.{AreScriptCalls}
 use Rattle.job_model.specs.declared.job.Job.{Job}
-use Rattle.job_model.specs.Job.{longest_name}
+use Rattle.job_model.specs.declared.limits.TheConstants.{LONGEST_PLAIN_NAME}
 use Rattle.served_model.specs.ReportText.{Report, report_text}
 
 -- a lower tree that carries this plain tree
@@ -18,7 +18,7 @@ pub record CarriesTree (nodes : List LowerNode) (tree : PlainTree) : Type 0 wher
 -- A report serves a job, with this tree at the end.
 pub record Serves (job : Job) (report : Report) (end : PlainTree) : Type 0 where
   -- the tree's history is one that a plain tree could have had, from the tree that the job's image shows
-  pub tree_history : IsTreeLog (shown longest_name job.image) report.histories.tree end
+  pub tree_history : IsTreeLog (shown LONGEST_PLAIN_NAME job.image) report.histories.tree end
   -- it holds each session's calls once, in its order, with the replies that it got, and no others
   pub script_calls : AreScriptCalls job.scripts report.histories report.sessions
   -- the printed image carries the tree at the end

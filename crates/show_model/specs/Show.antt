@@ -10,7 +10,7 @@ use Rattle.key_model.specs.PassphraseKey.{passphrase_key, key_signature}
 use Rattle.content_model.specs.Content.{Ring, IsContent}
 use Rattle.content_model.specs.declared.content.Content.{Content}
 use Rattle.content_model.specs.declared.content.Content.TheVariants as contents
-use Rattle.job_model.specs.Job.{longest_name}
+use Rattle.job_model.specs.declared.limits.TheConstants.{LONGEST_PLAIN_NAME}
 use Rattle.job_model.specs.declared.job.Job.{Job}
 use Rattle.show_model.specs.declared.item.ShowItem.{ShowItem}
 use Rattle.show_model.specs.declared.item.ShowWhat.{ShowWhat}
@@ -44,7 +44,7 @@ place_of item = (item.path, item.node)
 
 -- These items tell all nodes of a job's image but the root, in the order of a listing.
 pub record TellsImage (job : Job) (items : List ShowItem) : Type 0 where
-  pub listed : ListsTree (shown longest_name job.image) (map place_of items)
+  pub listed : ListsTree (shown LONGEST_PLAIN_NAME job.image) (map place_of items)
   pub told : TellsItems (ring_of job.salt job.passphrase) job.image items
 
 -- The output is the show text of a job's image.

@@ -1,0 +1,17 @@
+/// The most octets of a job's text.
+pub const MOST_OCTETS: usize = 268_435_456;
+
+/// The most octets of a passphrase.
+pub const LONGEST_PASSPHRASE: usize = 64;
+
+/// The most sessions of a job.
+pub const MOST_SESSIONS: usize = 16;
+
+/// The most operations of a session's script.
+pub const MOST_OPERATIONS: usize = 65_536;
+
+/// The most items of a schedule.
+pub const MOST_ITEMS: usize = 1_048_576;
+
+/// The most octets of a name in a mount with plain names.
+pub const LONGEST_PLAIN_NAME: usize = 255;
