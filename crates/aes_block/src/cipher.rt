@@ -6,7 +6,7 @@ ghost use Rattle.cipher_model.specs.Aes.{add_round_key, byte_of, bytes_at, encry
 ghost use Rattle.aes_block.specs.Words.{mixed_word};
 
 use crate::tables::{SUB, TE};
-use crate::words::{byte0, byte1, byte2, byte3, key_at, number_of, words_of, xored_at};
+use crate::words::{add_round_key, byte0, byte1, byte2, byte3, key_at, number_of, words_of};
 
 // What the column owes to one byte of each word.
 #[inline(always)]
@@ -141,7 +141,7 @@ fn last_round_at(s: [u32; 4], ws: &[u32; 44], i: usize) -> [u32; 4]
 fn encrypted_words(ws: &[u32; 44], block: [u32; 4]) -> [u32; 4]
     ensures { bytes_at result 0 ≡ encrypted_with 10 ws.now (bytes_at block 0) }
 {
-    let s0 = xored_at(block, ws, 0);
+    let s0 = add_round_key(block, ws, 0);
     let s1 = round_at(s0, ws, 4);
     let s2 = round_at(s1, ws, 8);
     let s3 = round_at(s2, ws, 12);

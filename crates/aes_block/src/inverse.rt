@@ -7,7 +7,7 @@ ghost use Rattle.aes_block.specs.Words.{AreUnmixed, inv_mixed_word, unmixed_word
 
 use crate::cipher::subbed_column;
 use crate::tables::{INV_SBOX, TD};
-use crate::words::{byte0, byte1, byte2, byte3, key_at, number_of, words_of, xored_at};
+use crate::words::{add_round_key, byte0, byte1, byte2, byte3, key_at, number_of, words_of};
 
 // What the column under InvMixColumns owes to one byte of each word.
 #[inline(always)]
@@ -51,7 +51,7 @@ fn unmixed_column(a: u32, b: u32, c: u32, d: u32) -> u32
 }
 
 // A word of the key under InvMixColumns.
-pub fn unmixed(w: u32) -> u32
+pub fn unmixed_word(w: u32) -> u32
     ensures { result ≡ unmixed_word w }
 {
     let s = subbed_column(w, w, w, w);
@@ -63,7 +63,7 @@ pub fn unmixed_words(ws: &[u32; 44]) -> [u32; 44]
 {
     let mut us = [0u32; 44];
     'words: for i in 0..44 {
-        us[i] = unmixed(ws[i]);
+        us[i] = unmixed_word(ws[i]);
     }
     us
 }
@@ -134,7 +134,7 @@ fn decrypted_words(us: &[u32; 44], ws: &[u32; 44], block: [u32; 4]) -> [u32; 4]
     requires { AreUnmixed us.now ws.now }
     ensures { bytes_at result 0 ≡ decrypted_with 10 ws.now (bytes_at block 0) }
 {
-    let mut s = xored_at(block, ws, 40);
+    let mut s = add_round_key(block, ws, 40);
     'rounds: for r in 1..10 {
         s = unround_at(s, us, 4 * (10 - r));
     }

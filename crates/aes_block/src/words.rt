@@ -74,7 +74,7 @@ pub fn key_at(ws: &[u32; 44], i: usize) -> [u32; 4]
 }
 
 #[inline(always)]
-pub fn xored_at(s: [u32; 4], ws: &[u32; 44], i: usize) -> [u32; 4]
+pub fn add_round_key(s: [u32; 4], ws: &[u32; 44], i: usize) -> [u32; 4]
     requires { i + 4 ≤ 44 }
     ensures { bytes_at result 0 ≡ add_round_key (bytes_at s 0) (bytes_at ws.now i) }
 {

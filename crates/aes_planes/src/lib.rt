@@ -10,4 +10,4 @@ mod sub_bytes;
 mod transpose;
 
 pub use plane_keys::PlaneKeys;
-pub use planes::{Planes, known};
+pub use planes::{Planes, as_block};

@@ -6,7 +6,7 @@ ghost use Rattle.aes_planes.specs.Planes.{AreRoundKeys, block_in};
 use crate::planes::Planes;
 use crate::steps::{add, inv_mix, inv_shift};
 use crate::sub_bytes::inv_sub_bits;
-use crate::transpose::transposed;
+use crate::transpose::transpose_bits;
 use aes_block::RoundKeys;
 use std::fmt::{self, Debug, Formatter, Write};
 use std::marker::Model;
@@ -28,11 +28,11 @@ fn unround(q: Planes, k: Planes) -> Planes
 }
 
 // Planes of eight blocks, each the same.
-fn repeated(block: [u8; 16]) -> Planes
+fn repeated_block(block: [u8; 16]) -> Planes
     ensures { (m : ℕ) → m < 8 → block_in result m ≡ block }
 {
     let k = u8x16::from_array(block);
-    transposed(Planes {
+    transpose_bits(Planes {
         p0: k,
         p1: k,
         p2: k,
@@ -46,7 +46,7 @@ fn repeated(block: [u8; 16]) -> Planes
 
 // The inverse cipher on planes, with the round keys in planes.
 #[inline(always)]
-fn decrypted(rounds: &[Planes; 11], q: Planes) -> Planes
+fn inv_cipher(rounds: &[Planes; 11], q: Planes) -> Planes
     ensures value { (k : List ℕ) → length k ≡ 16 → AreRoundKeys k rounds.now
         → (m : ℕ) → m < 8 → block_in result m ≡ decrypted k (block_in q m) }
     // What the type says, for the caller.
@@ -86,10 +86,10 @@ impl PlaneKeys {
     pub fn new(keys: &RoundKeys) -> PlaneKeys
         ensures { result ≡ keys.now }
     {
-        let first = repeated(keys.round_key(0));
+        let first = repeated_block(keys.round_key(0));
         let mut rounds = [first; 11];
         'keys: for r in 1..11 {
-            rounds[r] = repeated(keys.round_key(r));
+            rounds[r] = repeated_block(keys.round_key(r));
         }
         PlaneKeys { rounds }
     }
@@ -99,9 +99,9 @@ impl PlaneKeys {
     pub fn decrypt(&self, blocks: Planes) -> Planes
         ensures { (m : ℕ) → m < 8 → plane result m ≡ decrypted self.now (plane blocks m) }
     {
-        let planes = transposed(blocks);
-        let plain = decrypted(&self.rounds, planes);
-        transposed(plain)
+        let planes = transpose_bits(blocks);
+        let plain = inv_cipher(&self.rounds, planes);
+        transpose_bits(plain)
     }
 }
 

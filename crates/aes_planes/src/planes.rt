@@ -43,7 +43,7 @@ pub fn not(a: u8x16) -> u8x16
 
 /// The vector itself. What its type says of it, that it has 16 octets, is a fact after the call.
 #[inline(always)]
-pub fn known(a: u8x16) -> u8x16
+pub fn as_block(a: u8x16) -> u8x16
     ensures value { result ≡ a }
     ensures block { IsBlock result }
 {
@@ -52,7 +52,7 @@ pub fn known(a: u8x16) -> u8x16
 
 // The planes themselves, with what their types say.
 #[inline(always)]
-pub fn known_all(q: Planes) -> Planes
+pub fn as_blocks(q: Planes) -> Planes
     ensures value { result ≡ q }
     ensures blocks { (m : ℕ) → m < 8 → IsBlock (plane result m) }
 {
@@ -66,14 +66,14 @@ pub fn known_all(q: Planes) -> Planes
         p6: q6,
         p7: q7,
     } = q;
-    let r0 = known(q0);
-    let r1 = known(q1);
-    let r2 = known(q2);
-    let r3 = known(q3);
-    let r4 = known(q4);
-    let r5 = known(q5);
-    let r6 = known(q6);
-    let r7 = known(q7);
+    let r0 = as_block(q0);
+    let r1 = as_block(q1);
+    let r2 = as_block(q2);
+    let r3 = as_block(q3);
+    let r4 = as_block(q4);
+    let r5 = as_block(q5);
+    let r6 = as_block(q6);
+    let r7 = as_block(q7);
     Planes {
         p0: r0,
         p1: r1,

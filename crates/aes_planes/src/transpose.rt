@@ -4,7 +4,7 @@ ghost use Rattle.std.specs.Int.{bit_at};
 ghost use Rattle.std.specs.Int.Bits.{bit_and};
 ghost use Rattle.aes_planes.specs.Planes.{bit_of, block_in, first_exchanged, plane, second_exchanged};
 
-use crate::planes::{Planes, known_all, xor};
+use crate::planes::{Planes, as_blocks, xor};
 use std::simd::prelude::*;
 
 // Each lane's bits, n places down, with none above.
@@ -26,7 +26,7 @@ fn left(a: u8x16, n: u8) -> u8x16
 }
 
 #[inline(always)]
-fn masked(a: u8x16, mask: u8) -> u8x16
+fn with_mask(a: u8x16, mask: u8) -> u8x16
     ensures { (i m : ℕ) → i < 16 → bit_of result i m ≡ bit_and (bit_of a i m) (bit_at mask m) }
 {
     a & u8x16::splat(mask)
@@ -37,7 +37,7 @@ fn exchange1(a: u8x16, b: u8x16) -> (u8x16, u8x16)
     ensures { (i m : ℕ) → i < 16 → m < 8 → (bit_of result.0 i m ≡ first_exchanged 1 a b i m) × (bit_of result.1 i m ≡ second_exchanged 1 a b i m) }
 {
     let d = xor(right(a, 1), b);
-    let t = masked(d, 0x55);
+    let t = with_mask(d, 0x55);
     let x = xor(a, left(t, 1));
     let y = xor(b, t);
     (x, y)
@@ -48,7 +48,7 @@ fn exchange2(a: u8x16, b: u8x16) -> (u8x16, u8x16)
     ensures { (i m : ℕ) → i < 16 → m < 8 → (bit_of result.0 i m ≡ first_exchanged 2 a b i m) × (bit_of result.1 i m ≡ second_exchanged 2 a b i m) }
 {
     let d = xor(right(a, 2), b);
-    let t = masked(d, 0x33);
+    let t = with_mask(d, 0x33);
     let x = xor(a, left(t, 2));
     let y = xor(b, t);
     (x, y)
@@ -59,7 +59,7 @@ fn exchange4(a: u8x16, b: u8x16) -> (u8x16, u8x16)
     ensures { (i m : ℕ) → i < 16 → m < 8 → (bit_of result.0 i m ≡ first_exchanged 4 a b i m) × (bit_of result.1 i m ≡ second_exchanged 4 a b i m) }
 {
     let d = xor(right(a, 4), b);
-    let t = masked(d, 0x0f);
+    let t = with_mask(d, 0x0f);
     let x = xor(a, left(t, 4));
     let y = xor(b, t);
     (x, y)
@@ -67,7 +67,7 @@ fn exchange4(a: u8x16, b: u8x16) -> (u8x16, u8x16)
 
 // Bit m of plane b is bit b of plane m.
 #[inline(always)]
-fn exchanged(q: Planes) -> Planes
+fn exchange_bits(q: Planes) -> Planes
     ensures { (b : ℕ) → b < 8 → (m : ℕ) → m < 8 → (i : ℕ) → i < 16 → bit_of (plane result b) i m ≡ bit_of (plane q m) i b }
 {
     let Planes {
@@ -106,11 +106,11 @@ fn exchanged(q: Planes) -> Planes
 
 // From blocks to planes, and back.
 #[inline(always)]
-pub fn transposed(q: Planes) -> Planes
+pub fn transpose_bits(q: Planes) -> Planes
     ensures to_planes { (m : ℕ) → m < 8 → block_in result m ≡ plane q m }
     ensures from_planes { (m : ℕ) → m < 8 → plane result m ≡ block_in q m }
 {
-    let blocks = known_all(q);
-    let bits = exchanged(blocks);
-    known_all(bits)
+    let blocks = as_blocks(q);
+    let bits = exchange_bits(blocks);
+    as_blocks(bits)
 }

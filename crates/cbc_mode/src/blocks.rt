@@ -4,7 +4,7 @@ ghost use Rattle.cipher_model.specs.Aes.{IsBlock, xor_blocks};
 ghost use Rattle.cipher_model.specs.Blocks.{block_at};
 ghost use Rattle.cbc_mode.specs.Steps.{PutsBlock};
 
-use aes_planes::known;
+use aes_planes::as_block;
 use std::simd::prelude::*;
 
 #[inline(always)]
@@ -32,7 +32,7 @@ pub fn vector_at(octets: &[u8], i: usize) -> u8x16
     ensures value { result ≡ block_at octets.now i }
     ensures block { IsBlock result }
 {
-    known(u8x16::from_array(block_at(octets, i)))
+    as_block(u8x16::from_array(block_at(octets, i)))
 }
 
 #[inline(always)]

@@ -11,7 +11,8 @@ use thiserror::Error;
 #[cfg(test)]
 mod tests;
 
-const MAX_LENGTH: usize = 64;
+/// The most octets of a passphrase.
+pub const MAX_LENGTH: usize = 64;
 
 const ITERATIONS: u32 = 65_536;
 
@@ -21,7 +22,7 @@ pub enum PassFault {
     /// The passphrase has no octets.
     #[error("the passphrase is empty")]
     Empty,
-    /// The passphrase has this many octets, and more than 64.
+    /// The passphrase has this many octets, and more than [`MAX_LENGTH`].
     #[error("the passphrase has {0} octets, and at most 64 are allowed")]
     Long(usize),
     /// Memory was refused. [`derive`] takes none, so it does not answer this.
@@ -29,18 +30,18 @@ pub enum PassFault {
     Memory,
 }
 
-/// The key-encryption key of a passphrase of 1 to 64 octets, and the key's signature.
+/// The key-encryption key of a passphrase of 1 to [`MAX_LENGTH`] octets, and the key's signature.
 pub fn derive(salt: &[u8; 8], passphrase: &[u8]) -> Result<(Kek, [u8; 8]), PassFault>
     ensures empty { IsErrOf result PassFault.Empty ↔ (length passphrase.now ≡ 0) }
     ensures long { (n : ℕ) → IsErrOf result (PassFault.Long n)
-        ↔ ((64 < length passphrase.now) × (n ≡ length passphrase.now)) }
-    ensures derived { 0 < length passphrase.now → length passphrase.now ≤ 64
+        ↔ ((MAX_LENGTH < length passphrase.now) × (n ≡ length passphrase.now)) }
+    ensures derived { 0 < length passphrase.now → length passphrase.now ≤ MAX_LENGTH
         → let key = passphrase_key salt.now passphrase.now in result ≡ Ok (key, key_signature key) }
 {
     match passphrase.len() {
         0 => Err(PassFault::Empty),
         1..=MAX_LENGTH => {
-            let key = stretched(salt, passphrase);
+            let key = key_octets(salt, passphrase);
             let signature = signature(&key);
             Ok((Kek::new(key), signature))
         }
@@ -49,7 +50,7 @@ pub fn derive(salt: &[u8; 8], passphrase: &[u8]) -> Result<(Kek, [u8; 8]), PassF
 }
 
 #[tactic(auto, unfolding(key_model::specs::PassphraseKey::iterated_sha512))]
-fn stretched(salt: &[u8; 8], passphrase: &[u8]) -> [u8; 64]
+fn key_octets(salt: &[u8; 8], passphrase: &[u8]) -> [u8; 64]
     ensures { result ≡ passphrase_key salt.now passphrase.now }
 {
     let mut hasher = Sha512::new();

@@ -1,9 +1,9 @@
 //! The secrets of a mount: the file keys, the key that wraps them and the key of names, which have to be
 //! spent, and the source of new file keys. Nothing here takes memory.
 //!
-//! A key has no `Drop`, so a path on which it is let go without `spend` does not compile. `spend` writes
-//! zeros over the octets that it is given. A compiler may leave such writes out, and copies that moves left
-//! in memory are not wiped.
+//! A key has no `Drop`, so in code without `unsafe` a path on which it is let go without `spend` does not
+//! compile. `spend` can't end before the octets that it holds are zeros. A compiler may leave such writes
+//! out, and local copies and those that moves left in memory are not wiped.
 #![tactic(auto)]
 
 mod file_key;

@@ -7,15 +7,15 @@ use Rattle.aes_planes.proofs.plane_keys.PlaneKeys.new.Goals as goal
 
 pub keys-init : goal.keys-init
 keys-init c = record {
-  so_far = keys_none c.repeated-first.result (λ r. round_key c.args.keys.now r) (λ m hm. c.repeated-first.ensures m hm ∙ c.round_key.ensures.value);
+  so_far = keys_none c.repeated_block-first.result (λ r. round_key c.args.keys.now r) (λ m hm. c.repeated_block-first.ensures m hm ∙ c.round_key.ensures.value);
   long = refl;
 }
 
 pub keys-preserved : goal.keys-preserved
 keys-preserved c = record {
-  so_far = keys_more c.keys.rounds c.repeated.result (λ r. round_key c.args.keys.now r) c.keys.r (omega (arith, c.keys.invariant.long)) c.keys.invariant.so_far
-      (λ m hm. c.repeated.ensures m hm ∙ c.round_key-in-keys.ensures.value);
-  long = length-set c.keys.rounds c.keys.r c.repeated.result ∙ c.keys.invariant.long;
+  so_far = keys_more c.keys.rounds c.repeated_block.result (λ r. round_key c.args.keys.now r) c.keys.r (omega (arith, c.keys.invariant.long)) c.keys.invariant.so_far
+      (λ m hm. c.repeated_block.ensures m hm ∙ c.round_key-in-keys.ensures.value);
+  long = length-set c.keys.rounds c.keys.r c.repeated_block.result ∙ c.keys.invariant.long;
 }
 
 pub returns : goal.returns
