@@ -119,6 +119,7 @@ unround_bytes_at s us ws i w0 w1 w2 w3 u0 u1 u2 u3 room un e0 e1 e2 e3 f0 f1 f2 
 
 -- ---- the rounds
 
+-- the last round of the inverse cipher
 pub unrounds_none : (ws s t : List ℕ) (r : ℕ) → r ≡ 10 → t ≡ add_round_key (inv_sub_bytes (inv_shift_rows s)) (bytes_at ws 0)
     → t ≡ unrounds ws (inv_sub_bytes (inv_shift_rows s)) (10 - r)
 unfolding unrounds
@@ -131,6 +132,7 @@ unrounds_suc : (ws s : List ℕ) (n : ℕ)
 unfolding unrounds
 unrounds_suc ws s n = refl
 
+-- one more round of the inverse cipher, before the last
 pub unrounds_more : (ws s t x : List ℕ) (r : ℕ) → r < 10
     → unrounds ws (inv_sub_bytes (inv_shift_rows s)) (10 - r) ≡ x
     → t ≡ inv_mix_columns (add_round_key (inv_sub_bytes (inv_shift_rows s)) (bytes_at ws (4 * (10 - r))))

@@ -51,6 +51,7 @@ times_bit a b ha hb = elim (bit_cases a ha) [
   ]
 ]
 
+-- x times a sum is the sum of the products
 pub times_x-xor : (a b : ℕ) → a < 256 → b < 256 → times_x (bit_xor a b) ≡ bit_xor (times_x a) (times_x b)
 times_x-xor a b ha hb =
     let low : 2 * bit_xor a b % 256 ≡ bit_xor (2 * a % 256) (2 * b % 256) = ap (λ (x : ℕ). x % 256) (xor_double a b) ∙ xor_mod (2 * a) (2 * b) 8 in
@@ -58,6 +59,7 @@ times_x-xor a b ha hb =
     ap (λ (x : ℕ). 27 * x) (xor_shr a b 7) ∙ times_bit (a / 128) (b / 128) (omega arith) (omega arith) in
     (λ i. bit_xor (low i) (high i)) ∙ xor_exchange (2 * a % 256) (2 * b % 256) (27 * (a / 128)) (27 * (b / 128))
 
+-- x times an element of the field is an element
 pub times_x-lt : (a : ℕ) → a < 256 → times_x a < 256
 times_x-lt a h = xor_lt 8 (2 * a % 256) (27 * (a / 128)) (omega arith) (omega arith)
 

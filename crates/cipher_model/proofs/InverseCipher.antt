@@ -55,6 +55,7 @@ inv_shift-shift s b = each_byte_whole s b.long
 pub shift-inv_shift : (s : List ℕ) → IsBlock s → shift_rows (inv_shift_rows s) ≡ s
 shift-inv_shift s b = each_byte_whole s b.long
 
+-- a round key that is added twice falls out
 pub add-add : (s k : List ℕ) → IsBlock s → add_round_key (add_round_key s k) k ≡ s
 add-add s k b =
     whole_from s (λ i. bit_xor (bit_xor (slice_index s i) (slice_index k i)) (slice_index k i)) b
@@ -182,28 +183,34 @@ pub IsBlock-encrypted : (k b : List ℕ) → IsBlock b → IsBlock (encrypted k 
 unfolding encrypted
 IsBlock-encrypted k = IsBlock-encrypted_with (round_count (word_count k)) (key_schedule (word_count k) k)
 
+-- the inverse cipher of a block is a block
 pub IsBlock-decrypted : (k b : List ℕ) → IsBlock b → IsBlock (decrypted k b)
 unfolding decrypted
 IsBlock-decrypted k = IsBlock-decrypted_with (round_count (word_count k)) (key_schedule (word_count k) k)
 
+-- the inverse cipher undoes the cipher
 pub decrypted-encrypted : (k b : List ℕ) → IsBlock b → decrypted k (encrypted k b) ≡ b
 unfolding encrypted decrypted
 decrypted-encrypted k = decrypted_with-encrypted_with (round_count (word_count k)) (key_schedule (word_count k) k)
 
+-- the cipher undoes the inverse cipher
 pub encrypted-decrypted : (k b : List ℕ) → IsBlock b → encrypted k (decrypted k b) ≡ b
 unfolding encrypted decrypted
 encrypted-decrypted k = encrypted_with-decrypted_with (round_count (word_count k)) (key_schedule (word_count k) k)
 
 -- ---- for a key of 16 bytes
 
+-- the cipher under a key of 16 octets has 10 rounds
 pub encrypted-16 : (k b : List ℕ) → length k ≡ 16 → encrypted k b ≡ encrypted_with 10 (key_schedule 4 k) b
 unfolding encrypted
 encrypted-16 k b e = ap (λ (n : ℕ). encrypted_with (round_count (n / 4)) (key_schedule (n / 4) k) b) e
 
+-- the inverse cipher under a key of 16 octets has 10 rounds
 pub decrypted-16 : (k b : List ℕ) → length k ≡ 16 → decrypted k b ≡ decrypted_with 10 (key_schedule 4 k) b
 unfolding decrypted
 decrypted-16 k b e = ap (λ (n : ℕ). decrypted_with (round_count (n / 4)) (key_schedule (n / 4) k) b) e
 
+-- a round key of a key of 16 octets is four words of the schedule
 pub round_key-16 : (k : List ℕ) (r : ℕ) → length k ≡ 16 → round_key k r ≡ bytes_at (key_schedule 4 k) (4 * r)
 unfolding round_key
 round_key-16 k r e = ap (λ (n : ℕ). bytes_at (key_schedule (n / 4) k) (4 * r)) e

@@ -42,6 +42,7 @@ module _ (j0 j1 j2 j3 : ℕ) where
   abbrev pub turned : ℕ → ℕ → ℕ → ℕ → ℕ
   turned a b c d = sum4 (product a j0) (product b j1) (product c j2) (product d j3)
 
+  -- such an octet is one
   pub turned-lt : (a b c d : ℕ) → a < 256 → b < 256 → c < 256 → d < 256 → turned a b c d < 256
   turned-lt a b c d ha hb hc hd =
       let lt : (x j : ℕ) → x < 256 → product x j < 256 = λ x j h. product_of_bits-lt 8 x j h in
@@ -73,9 +74,11 @@ module _ (j0 j1 j2 j3 : ℕ) where
         ∙ sum4_transposed (p a j0 k0) (p b j1 k0) (p c j2 k0) (p d j3 k0) (p a j3 k1) (p b j0 k1) (p c j1 k1) (p d j2 k1)
         (p a j2 k2) (p b j3 k2) (p c j0 k2) (p d j1 k2) (p a j1 k3) (p b j2 k3) (p c j3 k3) (p d j0 k3)
 
+-- MixColumns gives octets
 pub mixed_byte-lt : (a b c d : ℕ) → a < 256 → b < 256 → c < 256 → d < 256 → mixed_byte a b c d < 256
 mixed_byte-lt = turned-lt 2 3 1 1
 
+-- InvMixColumns gives octets
 pub inv_mixed_byte-lt : (a b c d : ℕ) → a < 256 → b < 256 → c < 256 → d < 256 → inv_mixed_byte a b c d < 256
 inv_mixed_byte-lt = turned-lt 14 11 13 9
 

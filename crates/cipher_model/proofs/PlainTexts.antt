@@ -22,6 +22,7 @@ IsBlock-previous : (iv cs : List ℕ) (i : ℕ) → IsBlock iv → AreOctets cs 
 IsBlock-previous iv cs zero first octets h = first
 IsBlock-previous iv cs (suc i) first octets h = IsBlock-block_at cs i octets (omega arith)
 
+-- a cipher text has one plain text under CBC
 pub cbc-only : (k iv cs ps qs : List ℕ) → IsBlock iv → AreOctets cs → AreOctets ps → AreOctets qs → IsCbc k iv ps cs → IsCbc k iv qs cs → ps ≡ qs
 cbc-only k iv cs ps qs first hc hp hq p q =
     let long : length ps ≡ length qs = sym p.same_length.long ∙ q.same_length.long in
@@ -59,6 +60,7 @@ cbc_has_one k iv cs first octets whole =
 
 -- ---- ECB
 
+-- a cipher text has one plain text under ECB
 pub ecb-only : (k cs ps qs : List ℕ) → AreOctets ps → AreOctets qs → IsEcb k ps cs → IsEcb k qs cs → ps ≡ qs
 ecb-only k cs ps qs hp hq p q =
     let long : length ps ≡ length qs = sym p.same_length.long ∙ q.same_length.long in

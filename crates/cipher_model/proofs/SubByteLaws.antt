@@ -8,6 +8,7 @@ sub_byte_bytes : list_all (λ (y : ℕ). ltb y 256) (map sub_byte (range_with_le
 unfolding product_of_bits power_of_bits sub_byte
 sub_byte_bytes = refl
 
+-- SubBytes gives octets
 pub sub_byte-lt : (x : ℕ) → x < 256 → sub_byte x < 256
 sub_byte-lt = byte_at sub_byte sub_byte_bytes
 
@@ -15,6 +16,7 @@ inv_sub_byte_bytes : list_all (λ (y : ℕ). ltb y 256) (map inv_sub_byte (range
 unfolding product_of_bits power_of_bits inv_sub_byte
 inv_sub_byte_bytes = refl
 
+-- InvSubBytes gives octets
 pub inv_sub_byte-lt : (x : ℕ) → x < 256 → inv_sub_byte x < 256
 inv_sub_byte-lt = byte_at inv_sub_byte inv_sub_byte_bytes
 
@@ -22,6 +24,7 @@ undone : map (λ (x : ℕ). inv_sub_byte (sub_byte x)) (range_with_len 0 256) �
 unfolding product_of_bits power_of_bits sub_byte inv_sub_byte
 undone = refl
 
+-- InvSubBytes undoes SubBytes
 pub inv_sub_byte-sub_byte : (x : ℕ) → x < 256 → inv_sub_byte (sub_byte x) ≡ x
 inv_sub_byte-sub_byte = itself_at (λ (x : ℕ). inv_sub_byte (sub_byte x)) undone
 

@@ -14,6 +14,7 @@ use Rattle.tree_model.specs.Names.{is_named, node_of, put_entry, RisesBehind}
 
 -- ---- equal names
 
+-- each name compares as equal to itself
 pub is_named_same : (a : List ℕ) → is_named a a ≡ true
 is_named_same a = (eq_by_cmp_equiv nat_list_cmp_total).refl a
 
@@ -22,6 +23,7 @@ is_eq_Equal Less h = absurd (false≢true h)
 is_eq_Equal Equal h = refl
 is_eq_Equal Greater h = absurd (false≢true h)
 
+-- names that compare as equal are equal
 pub is_named_is : (a b : List ℕ) → is_named a b ≡ true → a ≡ b
 is_named_is a b h = exact_bytes a b (is_eq_Equal (slice_cmp nat_cmp a b) h)
 
@@ -48,12 +50,14 @@ node_of-put_first Greater q k e v es rest is later =
       | inr h ↦ rw h (ap (cond (is_named q e.0) (Some e.1)) (rw h at later))
     ]
 
+-- what is found where an entry was put: its node under its name, else what was found before
 pub node_of-put_entry : (q : List ℕ) (es : List (List ℕ × ℕ)) (k : List ℕ) (v : ℕ) → node_of q (put_entry es k v) ≡ cond (is_named k q) (Some v) (node_of q es)
 node_of-put_entry q [] k v = rw (is_named_both q k) refl
 node_of-put_entry q (e ∷ es) k v = node_of-put_first (slice_cmp nat_cmp k e.0) q k e v es (put_entry es k v) refl (node_of-put_entry q es k v)
 
 -- ---- the order
 
+-- each name comes behind the empty list
 pub comes_behind_nothing : (a : List ℕ) → IsTrue (is_name a) → IsTrue (comes_before [] a)
 comes_behind_nothing [] h = h
 comes_behind_nothing (x ∷ xs) h = refl
@@ -69,6 +73,7 @@ RisesBehind-put_first Less last k e v es rest is before name rises later = (befo
 RisesBehind-put_first Equal last k e v es rest is before name rises later = rises
 RisesBehind-put_first Greater last k e v es rest is before name rises later = (rises.0, rises.1, later (greater_turned k e.0 (sym is)))
 
+-- an entry at its place in octet order leaves the names rising
 pub RisesBehind-put_entry : (last : List ℕ) (es : List (List ℕ × ℕ)) (k : List ℕ) (v : ℕ) → IsTrue (comes_before last k) → IsTrue (is_name k) → RisesBehind last es → RisesBehind last (put_entry es k v)
 RisesBehind-put_entry last [] k v before name rises = (before, name, tt)
 RisesBehind-put_entry last (e ∷ es) k v before name rises =
