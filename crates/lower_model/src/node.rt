@@ -1,7 +1,7 @@
 use crate::{Items, Kind};
 
 /// A node of a lower tree: the number of its directory, its name in there, and what it holds.
-#[derive(Drop)]
+#[derive(Debug, Drop)]
 pub struct LowerNode {
     /// The number of the directory that it stands in; 0 for the root itself.
     pub parent: u32,
@@ -16,7 +16,7 @@ pub struct LowerNode {
 }
 
 /// A directory that can get a further entry, and the name of its last entry, empty where it has none yet.
-#[derive(Drop)]
+#[derive(Debug, Drop)]
 pub struct OpenDir {
     /// The directory's number.
     pub node: u32,

@@ -5,7 +5,7 @@ use std::marker::Model;
 
 /// The nodes of a lower tree by their numbers: the root, then the others in preorder, the entries
 /// of each directory in octet order of their names.
-#[derive(Drop)]
+#[derive(Debug, Drop)]
 pub struct LowerTree {
     nodes: Vec<LowerNode>,
 }

@@ -11,7 +11,7 @@ use session_model::{Op, Reply, TreeEntry};
 use std::alloc::{AllocError, Global};
 
 /// What a script has left: the tree's log, and the session's replies.
-#[derive(Drop)]
+#[derive(Debug, Drop)]
 pub struct Ran {
     /// The turns of the tree, in their order.
     pub log: Vec<TreeEntry>,

@@ -14,7 +14,7 @@ use std::marker::Model;
 use tree_model::{Directory, Name, Path, Place, Shown, TreeCall, TreeRefusal, TreeReply};
 
 /// A plain tree: how long its names may be, and what stands at each node number, the root at 0.
-#[derive(Drop)]
+#[derive(Debug, Drop)]
 pub struct Tree {
     limit: usize,
     places: Vec<Place>,

@@ -2,7 +2,7 @@ use crate::{Name, Path};
 use lower_model::{Items, Kind};
 
 /// A call on the plain tree.
-#[derive(Drop)]
+#[derive(Debug, Drop)]
 pub enum TreeCall {
     /// Make a directory.
     Mkdir(Path),
@@ -28,7 +28,7 @@ pub enum TreeRefusal {
 }
 
 /// An entry as a list of a directory tells it.
-#[derive(Drop)]
+#[derive(Debug, Drop)]
 pub struct Shown {
     /// Directory or file.
     pub kind: Kind,
@@ -37,7 +37,7 @@ pub struct Shown {
 }
 
 /// What a call on the plain tree answers.
-#[derive(Drop)]
+#[derive(Debug, Drop)]
 pub enum TreeReply {
     /// It is done.
     Done,

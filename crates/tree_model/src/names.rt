@@ -10,7 +10,7 @@ use std::alloc::{AllocError, Global};
 use std::marker::Model;
 
 /// Names in octet order, each with its node.
-#[derive(Drop)]
+#[derive(Debug, Drop)]
 pub struct Names {
     entries: Vec<(Name, u32)>,
 }
