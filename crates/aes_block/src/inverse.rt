@@ -1,5 +1,5 @@
 // The rounds of the inverse cipher, on four words, with the round keys under InvMixColumns.
-ghost use Rattle.std.specs.Prelude.{◌≡◌, ◌+◌, ◌≤◌, ◌<◌, ℕ, List};
+ghost use Rattle.std.specs.Prelude.{◌≡◌, ◌+◌, ◌≤◌, ℕ, List};
 ghost use Rattle.std.specs.Int.{to_le_bytes, w128};
 ghost use Rattle.cipher_model.specs.Field.{inv_sub_byte};
 ghost use Rattle.cipher_model.specs.Aes.{add_round_key, byte_of, bytes_at, decrypted_with, inv_mix_columns, inv_shift_rows, inv_sub_bytes, word};

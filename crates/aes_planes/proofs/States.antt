@@ -16,7 +16,7 @@ use Rattle.cipher_model.proofs.States.{block_byte, each_byte_same, each_byte_who
 use native.Mathlib.Nat.{div-one}
 use Rattle.std.specs.Int.{bit_at}
 use Rattle.aes_planes.specs.declared.planes.Planes.{Planes}
-use Rattle.aes_planes.specs.Planes.{from_bits, bit_of, byte_in, block_in, plane}
+use Rattle.aes_planes.specs.Planes.{from_bits, bit_of, lane, by_rows, byte_in, block_in, plane}
 use Rattle.std.proofs.lemmas.Simd.{length-zip2}
 use lib.Lanes.{zip2}
 use Rattle.aes_planes.proofs.Lanes.{bit_of-lt, lane-zip2}
@@ -25,7 +25,8 @@ use Rattle.aes_planes.proofs.Bits.{from_bits-lt}
 -- block m of eight planes
 abbrev pub block_of : List ℕ → List ℕ → List ℕ → List ℕ → List ℕ → List ℕ → List ℕ → List ℕ → ℕ → List ℕ
 block_of a b c d e f g h m =
-    each_byte (λ i. from_bits (bit_of a i m) (bit_of b i m) (bit_of c i m) (bit_of d i m) (bit_of e i m) (bit_of f i m) (bit_of g i m) (bit_of h i m))
+    each_byte (λ i. from_bits (bit_of a (lane i) m) (bit_of b (lane i) m) (bit_of c (lane i) m) (bit_of d (lane i) m)
+    (bit_of e (lane i) m) (bit_of f (lane i) m) (bit_of g (lane i) m) (bit_of h (lane i) m))
 
 each_byte-lt : (f : ℕ → ℕ) → ((i : ℕ) → f i < 256) → (j : ℕ) → slice_index (each_byte f) j < 256
 each_byte-lt f h j = elim (cases_lt j 16) [
@@ -38,7 +39,7 @@ byte_in-lt q i m = from_bits-lt _ _ _ _ _ _ _ _ (bit_of-lt q.p0 i m) (bit_of-lt 
     (bit_of-lt q.p4 i m) (bit_of-lt q.p5 i m) (bit_of-lt q.p6 i m) (bit_of-lt q.p7 i m)
 
 pub block_in-lt : (q : Planes) (m j : ℕ) → slice_index (block_in q m) j < 256
-block_in-lt q m j = each_byte-lt (λ i. byte_in q i m) (λ i. byte_in-lt q i m) j
+block_in-lt q m j = each_byte-lt (λ i. byte_in q (lane i) m) (λ i. byte_in-lt q (lane i) m) j
 
 -- ---- MixColumns on bytes
 
@@ -179,28 +180,33 @@ byte_whole x h =
     let e : x % 2 + 2 * (x / 2 % 2 + 2 * (x / 4 % 2 + 2 * (x / 8 % 2 + 2 * (x / 16 % 2 + 2 * (x / 32 % 2 + 2 * (x / 64 % 2 + 2 * (x / 128 % 2))))))) ≡ x = omega arith in
     ap (λ (y : ℕ). y % 2 + 2 * (x / 2 % 2 + 2 * (x / 4 % 2 + 2 * (x / 8 % 2 + 2 * (x / 16 % 2 + 2 * (x / 32 % 2 + 2 * (x / 64 % 2 + 2 * (x / 128 % 2)))))))) (div-one x) ∙ e
 
+-- a block row by row, and column by column again
+pub rows_back : (b : List ℕ) → IsBlock b → b ≡ by_rows (by_rows b)
+rows_back b block = sym (each_byte_whole b block.long)
+
 -- the bits of one plane, taken from the eight of q, make block m
 pub from_lane : (q : Planes) (p : List ℕ) (m : ℕ) → IsBlock p → ((b : ℕ) → b < 8 → (i : ℕ) → i < 16 → bit_of p i b ≡ bit_of (plane q b) i m)
-    → p ≡ block_in q m
+    → by_rows p ≡ block_in q m
 from_lane q p m block e =
     let t : (b : ℕ) → b < 8 → (i : ℕ) → i < 16 → bit_of p i b ≡ bit_of (plane q b) i m = e in
-    sym (each_byte_whole p block.long)
-    ∙ each_byte_same (λ i. slice_index p i) (λ i. byte_in q i m) (λ i hi.
-    sym (byte_whole (slice_index p i) (block_byte p i block))
-    ∙ (λ j. from_bits (t 0 (omega arith) i hi j) (t 1 (omega arith) i hi j) (t 2 (omega arith) i hi j) (t 3 (omega arith) i hi j)
-    (t 4 (omega arith) i hi j) (t 5 (omega arith) i hi j) (t 6 (omega arith) i hi j) (t 7 (omega arith) i hi j)))
+    each_byte_same (λ i. slice_index p (lane i)) (λ i. byte_in q (lane i) m) (λ i hi.
+    let l : ℕ = lane i in
+    let hl : l < 16 = omega arith in
+    sym (byte_whole (slice_index p l) (block_byte p l block))
+    ∙ (λ j. from_bits (t 0 (omega arith) l hl j) (t 1 (omega arith) l hl j) (t 2 (omega arith) l hl j) (t 3 (omega arith) l hl j)
+    (t 4 (omega arith) l hl j) (t 5 (omega arith) l hl j) (t 6 (omega arith) l hl j) (t 7 (omega arith) l hl j)))
 
 pub to_planes : (q k r : Planes) → k ≡ q → ((m : ℕ) → m < 8 → IsBlock (plane k m))
     → ((b : ℕ) → b < 8 → (m : ℕ) → m < 8 → (i : ℕ) → i < 16 → bit_of (plane r b) i m ≡ bit_of (plane k m) i b)
-    → (m : ℕ) → m < 8 → block_in r m ≡ plane q m
+    → (m : ℕ) → m < 8 → block_in r m ≡ by_rows (plane q m)
 to_planes q k r same blocks e m hm =
-    sym (from_lane r (plane k m) m (blocks m hm) (λ b hb i hi. sym (e b hb m hm i hi))) ∙ ap (λ (x : Planes). plane x m) same
+    sym (from_lane r (plane k m) m (blocks m hm) (λ b hb i hi. sym (e b hb m hm i hi))) ∙ ap (λ (x : Planes). by_rows (plane x m)) same
 
 pub from_planes : (q k r : Planes) → k ≡ q → ((m : ℕ) → m < 8 → IsBlock (plane r m))
     → ((b : ℕ) → b < 8 → (m : ℕ) → m < 8 → (i : ℕ) → i < 16 → bit_of (plane r b) i m ≡ bit_of (plane k m) i b)
-    → (m : ℕ) → m < 8 → plane r m ≡ block_in q m
+    → (m : ℕ) → m < 8 → plane r m ≡ by_rows (block_in q m)
 from_planes q k r same blocks e m hm =
-    from_lane k (plane r m) m (blocks m hm) (λ b hb i hi. e m hm b hb i hi) ∙ ap (λ (x : Planes). block_in x m) same
+    rows_back (plane r m) (blocks m hm) ∙ ap by_rows (from_lane k (plane r m) m (blocks m hm) (λ b hb i hi. e m hm b hb i hi)) ∙ ap (λ (x : Planes). by_rows (block_in x m)) same
 
 -- the sum of two vectors is the sum of their blocks
 pub sum_of_lanes : (a b : List ℕ) → length a ≡ 16 → length b ≡ 16 → zip2 bit_xor a b ≡ add_round_key a b

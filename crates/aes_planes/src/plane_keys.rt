@@ -3,7 +3,7 @@ ghost use Rattle.std.specs.Prelude.{◌≡◌, ℕ, ◌<◌, List, length};
 ghost use Rattle.cipher_model.specs.Aes.{add_round_key, decrypted, inv_mix_columns, inv_shift_rows, inv_sub_bytes};
 ghost use Rattle.aes_planes.specs.Planes.{AreRoundKeys, block_in};
 
-use crate::planes::Planes;
+use crate::planes::{Planes, all_rows_of, as_block, as_blocks};
 use crate::steps::{add, inv_mix, inv_shift};
 use crate::sub_bytes::inv_sub_bits;
 use crate::transpose::transpose_bits;
@@ -31,8 +31,8 @@ fn unround(q: Planes, k: Planes) -> Planes
 fn repeated_block(block: [u8; 16]) -> Planes
     ensures { (m : ℕ) → m < 8 → block_in result m ≡ block }
 {
-    let k = u8x16::from_array(block);
-    transpose_bits(Planes {
+    let k = as_block(u8x16::from_array(block));
+    let blocks = Planes {
         p0: k,
         p1: k,
         p2: k,
@@ -41,7 +41,8 @@ fn repeated_block(block: [u8; 16]) -> Planes
         p5: k,
         p6: k,
         p7: k,
-    })
+    };
+    transpose_bits(all_rows_of(blocks))
 }
 
 // The inverse cipher on planes, with the round keys in planes.
@@ -99,9 +100,10 @@ impl PlaneKeys {
     pub fn decrypt(&self, blocks: Planes) -> Planes
         ensures { (m : ℕ) → m < 8 → plane result m ≡ decrypted self.now (plane blocks m) }
     {
-        let planes = transpose_bits(blocks);
+        let whole = as_blocks(blocks);
+        let planes = transpose_bits(all_rows_of(whole));
         let plain = inv_cipher(&self.rounds, planes);
-        transpose_bits(plain)
+        all_rows_of(transpose_bits(plain))
     }
 }
 

@@ -1,17 +1,17 @@
 // The linear steps of the inverse cipher (FIPS 197, 5.3) on planes.
-ghost use Rattle.std.specs.Prelude.{◌≡◌, ℕ};
+ghost use Rattle.std.specs.Prelude.{◌≡◌, ℕ, ◌+◌, ◌*◌, ◌/◌, ◌%◌};
 ghost use Rattle.cipher_model.specs.Field.{times_x};
 ghost use Rattle.cipher_model.specs.Aes.{add_round_key, below, each_byte, inv_mix_columns, inv_shift_rows, mix_columns};
-ghost use Rattle.aes_planes.specs.Planes.{block_in, byte_in};
+ghost use Rattle.aes_planes.specs.Planes.{block_in, byte_in, lane, moved_lanes};
 
 use crate::planes::{Planes, xor};
 use std::simd::prelude::*;
 
 #[inline(always)]
 fn inv_shift_lanes(p: u8x16) -> u8x16
-    ensures { result ≡ inv_shift_rows p }
+    ensures { result ≡ moved_lanes (λ i. (i + 12 * (i % 4)) % 16) p }
 {
-    p.swizzle([0, 13, 10, 7, 4, 1, 14, 11, 8, 5, 2, 15, 12, 9, 6, 3])
+    p.swizzle([0, 1, 2, 3, 7, 4, 5, 6, 10, 11, 8, 9, 13, 14, 15, 12])
 }
 
 // InvShiftRows.
@@ -43,9 +43,9 @@ pub fn inv_shift(q: Planes) -> Planes
 
 #[inline(always)]
 fn down_one_lanes(p: u8x16) -> u8x16
-    ensures { result ≡ each_byte (λ i. below p i 1) }
+    ensures { result ≡ moved_lanes (λ i. 4 * (i / 4) + (i + 1) % 4) p }
 {
-    p.swizzle([1, 2, 3, 0, 5, 6, 7, 4, 9, 10, 11, 8, 13, 14, 15, 12])
+    p.swizzle([4, 5, 6, 7, 8, 9, 10, 11, 12, 13, 14, 15, 0, 1, 2, 3])
 }
 
 // Each byte becomes that one row below, in its column.
@@ -77,9 +77,9 @@ fn down_one(q: Planes) -> Planes
 
 #[inline(always)]
 fn down_two_lanes(p: u8x16) -> u8x16
-    ensures { result ≡ each_byte (λ i. below p i 2) }
+    ensures { result ≡ moved_lanes (λ i. 4 * (i / 4) + (i + 2) % 4) p }
 {
-    p.swizzle([2, 3, 0, 1, 6, 7, 4, 5, 10, 11, 8, 9, 14, 15, 12, 13])
+    p.swizzle([8, 9, 10, 11, 12, 13, 14, 15, 0, 1, 2, 3, 4, 5, 6, 7])
 }
 
 // Each byte becomes that two rows below.
@@ -139,7 +139,7 @@ pub fn add(q: Planes, k: Planes) -> Planes
 // Each byte times x.
 #[inline(always)]
 fn times_x(q: Planes) -> Planes
-    ensures { (m : ℕ) → block_in result m ≡ each_byte (λ i. times_x (byte_in q i m)) }
+    ensures { (m : ℕ) → block_in result m ≡ each_byte (λ i. times_x (byte_in q (lane i) m)) }
 {
     let Planes {
         p0: q0,

@@ -2,7 +2,7 @@
 ghost use Rattle.std.specs.Prelude.{◌≡◌, ℕ, ◌<◌, ◌+◌, ◌-◌, if◌then◌else◌, nat_lt};
 ghost use Rattle.std.specs.Int.{bit_at};
 ghost use Rattle.std.specs.Int.Bits.{bit_and};
-ghost use Rattle.aes_planes.specs.Planes.{bit_of, block_in, first_exchanged, plane, second_exchanged};
+ghost use Rattle.aes_planes.specs.Planes.{bit_of, block_in, by_rows, first_exchanged, plane, second_exchanged};
 
 use crate::planes::{Planes, as_blocks, xor};
 use std::simd::prelude::*;
@@ -104,11 +104,11 @@ fn exchange_bits(q: Planes) -> Planes
     }
 }
 
-// From blocks to planes, and back.
+// From blocks whose bytes stand row by row to planes, and back.
 #[inline(always)]
 pub fn transpose_bits(q: Planes) -> Planes
-    ensures to_planes { (m : ℕ) → m < 8 → block_in result m ≡ plane q m }
-    ensures from_planes { (m : ℕ) → m < 8 → plane result m ≡ block_in q m }
+    ensures to_planes { (m : ℕ) → m < 8 → block_in result m ≡ by_rows (plane q m) }
+    ensures from_planes { (m : ℕ) → m < 8 → plane result m ≡ by_rows (block_in q m) }
 {
     let blocks = as_blocks(q);
     let bits = exchange_bits(blocks);

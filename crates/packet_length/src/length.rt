@@ -1,4 +1,4 @@
-ghost use Rattle.std.specs.Prelude.{◌≡◌, ◌<◌, ◌≤◌, ◌++◌, ℕ, List, length, take, drop, slice_index, IfOk};
+ghost use Rattle.std.specs.Prelude.{◌≡◌, ◌≤◌, ◌++◌, ℕ, List, length, take, drop, slice_index, IfOk};
 ghost use Rattle.packet_model.specs.Length.{length_at, length_octets, two_octets};
 
 use packet_model::{LengthFault, MAX_LENGTH};
