@@ -97,6 +97,9 @@ regrouped job =
     (line (codes "names" ∷ coding_word job.names ∷ [])) (line (codes "meta" ∷ meta_place_word job.meta_place ∷ [])) (line (codes "random" ∷ hex job.random ∷ []))
     (image_text (image job.image)) (line (codes "sessions" ∷ number (length job.scripts) ∷ [])) (flat_map script_text job.scripts) (schedule_line job.schedule) (line (codes "end" ∷ []))
 
+spelled_as : (job : Job) (octets : List ℕ) → octets ≡ head ++ (keys_text (keys_in job) ++ (making_text (making_in job) ++ work_text (work_in job))) → octets ≡ job_text job
+spelled_as job octets e = e ∙ sym (regrouped job)
+
 job_from : (keys : Keys) (making : Making) (work : Work) → AreKeys keys → IsMaking making → IsWork work → IsJob (job_of keys making work.0 work.1 work.2)
 job_from keys making work k m w = record {
   passphrase = k.passphrase;
@@ -126,7 +129,7 @@ job_found octets job fits e =
     let made = job_of k.0.0 m.0.0 w.0.0 w.0.1 w.0.2 in
     let parts : octets ≡ head ++ (keys_text k.0.0 ++ (making_text m.0.0 ++ work_text w.0)) =
     first ∙ ap (λ (t : List ℕ). head ++ t) (f.0 ∙ ap (λ (t : List ℕ). keys_text k.0.0 ++ t) (g.0 ∙ ap (λ (t : List ℕ). making_text m.0.0 ++ t) i.0)) in
-    subst (λ (j : Job). IsJob j × (octets ≡ job_text j)) {x = made} (ok_is made job w.2) (job_from k.0.0 m.0.0 w.0 f.1 g.1 i.1, ◌∙◌ {b = head ++ (keys_text k.0.0 ++ (making_text m.0.0 ++ work_text w.0))} {c = job_text made} parts (sym (regrouped made)))
+    subst (λ (j : Job). IsJob j × (octets ≡ job_text j)) {x = made} (ok_is made job w.2) (job_from k.0.0 m.0.0 w.0 f.1 g.1 i.1, spelled_as made octets parts)
 
 pub job_again : (job : Job) → IsJob job → length (image job.image) < 2 ^ 64 → job_at (job_text job) ≡ Ok job
 unfolding job_at

@@ -10,6 +10,6 @@ returns c =
       ← c.in_ok-put_count-3.ensures {u = tt},
       ← c.in_ok-put_count-4.ensures {u = tt},
       ← c.in_ok-put_tree_call.ensures {u = tt},
-      ← c.in_ok-put_word.ensures {u = tt},
+      ← c.in_ok-put_word.ensures.ok,
       ← c.in_ok-put_tree_reply.ensures {u = tt},
-    ) c.put_line_end.ensures
+    ) c.put_line_end.ensures.ok

@@ -6,9 +6,9 @@ returns c =
     rw (
       item_line-parts c.args.out.now.items c.args.item.now,
       ← c.kind_letter.ensures,
-      ← c.in_ok-put_word.ensures {u = tt},
+      ← c.in_ok-put_word.ensures.ok,
       ← c.in_ok-put_number_field.ensures {u = tt},
-      ← c.in_ok-put_space.ensures {u = tt},
-      ← c.in_ok-put_path.ensures {u = tt},
+      ← c.in_ok-put_space.ensures.ok,
+      ← c.in_ok-put_path.ensures.ok,
       ← c.in_ok-put_told.ensures {u = tt},
-    ) c.put_line_end.ensures
+    ) c.put_line_end.ensures.ok
