@@ -1,4 +1,5 @@
-ghost use Rattle.std.specs.Prelude.{◌≡◌, ◌≤◌, [], ◌∷◌, ◌++◌, length, OnOk, OnErr};
+ghost use Rattle.std.specs.Prelude.{◌≡◌, ◌*◌, ◌<◌, ◌≤◌, [], ◌∷◌, ◌++◌, length, slice_index, OnOk, OnErr};
+ghost use Rattle.hex.specs.Hex.{lower_digits};
 ghost use Rattle.octet_model.specs.Octets.{BeginsWith};
 ghost use Rattle.text_model.specs.Line.{number, hex};
 
@@ -25,6 +26,24 @@ pub fn put_number(out: &mut Vec<u8>, n: u64) -> Result<(), AllocError>
     out.extend_from_slice(digits.format(n).as_bytes())
 }
 
+// The digit of a number. It is a sum, not looked up, so that a processor makes many at once.
+fn digit(n: u8) -> u8
+    requires { n < 16 }
+    ensures { result ≡ slice_index lower_digits n }
+{
+    if n < 10 { b'0' + n } else { b'a' - 10 + n }
+}
+
+fn write_digits(octets: &[u8], digits: &mut [u8])
+    requires { length digits.old ≡ 2 * length octets.now }
+    ensures { digits.new ≡ hex octets.now }
+{
+    for i in 0..octets.len() {
+        digits[2 * i] = digit(octets[i] >> 4);
+        digits[2 * i + 1] = digit(octets[i] & 0x0f);
+    }
+}
+
 // Adds the digits of some octets, at most as many as a piece has.
 fn put_hex_piece(out: &mut Vec<u8>, octets: &[u8]) -> Result<(), AllocError>
     requires { length octets.now ≤ PIECE }
@@ -33,7 +52,7 @@ fn put_hex_piece(out: &mut Vec<u8>, octets: &[u8]) -> Result<(), AllocError>
 {
     let mut digits = [0; 2 * PIECE];
     let digits = &mut digits[..2 * octets.len()];
-    hex::encode_to_slice(octets, digits).unwrap();
+    write_digits(octets, digits);
     out.extend_from_slice(digits)
 }
 

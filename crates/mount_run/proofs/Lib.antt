@@ -1,5 +1,5 @@
-pub mod Moves
-pub mod Taken
-pub mod Serving
-pub mod Telling
 pub mod Commands
+pub mod Moves
+pub mod Serving
+pub mod ShownLines
+pub mod Taken

@@ -8,7 +8,7 @@ use Rattle.tree_model.specs.Shown.{shown, Carries, KeepsFiles}
 use Rattle.session_model.specs.declared.op.Op.{Op}
 use Rattle.session_model.specs.declared.op.Reply.{Reply}
 use Rattle.session_model.specs.declared.entry.TreeEntry.{TreeEntry}
-use Rattle.session_model.specs.TreeLog.{IsTreeLog}
+use Rattle.session_model.specs.TreeLog.{IsTreeLog, AreFaultless}
 use Rattle.session_model.specs.ScriptCalls.{AreScriptCalls}
 use Rattle.job_model.specs.declared.job.Job.{Job}
 use Rattle.served_model.specs.ReportText.{Report, report_text}
@@ -28,6 +28,7 @@ pub record RanScript (job : Job) (script : List Op) (start end : PlainTree) (rep
   pub one : job.scripts ≡ script ∷ []
   pub is_shown : start ≡ shown 255 job.image
   pub history : IsTreeLog start log end
+  pub no_faults : AreFaultless log
   pub calls : AreScriptCalls (script ∷ []) (record { tree = log }) (replies ∷ [])
   pub lawful : IsLowerTree image
   pub carries : Carries image end
@@ -40,6 +41,7 @@ served_one job script start end replies log image out ran text = record {
   end = end;
   serves = record {
     tree_history = subst (λ (t : PlainTree). IsTreeLog t log end) ran.is_shown ran.history;
+    no_faults = ran.no_faults;
     script_calls = subst (λ (scripts : List (List Op)). AreScriptCalls scripts (record { tree = log }) (replies ∷ [])) (sym ran.one) ran.calls;
     carried = record { lawful = ran.lawful; carries = ran.carries };
     untouched = ran.kept;

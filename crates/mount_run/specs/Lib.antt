@@ -1,5 +1,6 @@
-pub mod Answers
-pub mod Causes
+pub mod InputAndOutput
 pub mod Memory
+pub mod ShowLines
+pub mod SourceAndSink
 pub mod Status
 pub mod Words

@@ -2,22 +2,17 @@
 #![tactic(auto)]
 
 mod answer;
-mod ends;
 mod memory;
 mod ring;
 mod run;
 mod serve;
 mod show;
+mod source_and_sink;
 mod status;
 mod stream;
 mod words;
 
-pub use ends::{Failed, Sink, Source};
 pub use memory::{MemSink, MemSource};
 pub use run::run_alone;
+pub use source_and_sink::{Failed, Sink, Source};
 pub use status::{BAD_JOB, MEMORY, OK, READ_FAULT, USAGE, WRITE_FAULT, status_name};
-
-#[cfg(test)]
-mod show_tests;
-#[cfg(test)]
-mod tests;

@@ -1,18 +1,18 @@
-ghost use Rattle.std.specs.Prelude.{◌≡◌, ◌↔◌, [], Some, IsTrue, IsErr, OnErr, OnOk, IfOk, length, min};
+ghost use Rattle.std.specs.Prelude.{◌≡◌, ◌↔◌, [], Some, IsTrue, IsErr, OnErr, IfOk, length, min};
 ghost use Rattle.std.specs.Io.{ReadsAtMost};
 ghost use Rattle.std.specs.Io.KnownBytes.{ReadConsumes};
-ghost use Rattle.mount_run.specs.Causes.{HasCause, WritesSome};
+ghost use Rattle.mount_run.specs.SourceAndSink.{CountsFailures, WritesSome};
 ghost use Rattle.answer_model.specs.Count.{next_count};
 ghost use Rattle.mount_run.specs.Memory.{call_fails};
 
-use crate::ends::{Failed, Sink, Source};
+use crate::source_and_sink::{Failed, Sink, Source};
 use std::marker::Model;
 
 /// The most octets that a source or a sink in memory moves in one call.
 const MOST_IN_A_CALL: usize = 4096;
 
 /// A source in memory, whose calls fail by their numbers.
-#[derive(Drop)]
+#[derive(Debug, Drop)]
 pub struct MemSource {
     octets: Vec<u8>,
     at: usize,
@@ -61,13 +61,12 @@ impl Source for MemSource {
     fn read(&mut self, to: &mut [u8]) -> Result<usize, Failed>
         ensures within { ReadsAtMost result to.new }
         ensures octets { ReadConsumes (Some self.old.left) (Some self.new.left) result to.new }
-        ensures cause { HasCause self.old.faults self.new.faults result }
+        ensures counted { CountsFailures self.old.faults self.new.faults result }
         ensures calls { self.new.calls ≡ next_count self.old.calls }
         ensures fails { self.new.fails ≡ self.old.fails }
         ensures failing { IsErr result ↔ IsTrue (call_fails self.old.fails self.old.calls) }
-        ensures counted { OnErr result (self.new.faults ≡ next_count self.old.faults) }
+        ensures one_more { OnErr result (self.new.faults ≡ next_count self.old.faults) }
         ensures moved { IfOk result (λ count. count ≡ min (min (length to.old) (length self.old.left)) 4096) }
-        ensures quiet { OnOk result (self.new.faults ≡ self.old.faults) }
     {
         self.calls = self.calls.saturating_add(1);
         if self.fails.contains(&self.calls) {
@@ -83,7 +82,7 @@ impl Source for MemSource {
 }
 
 /// A sink in memory, whose calls fail by their numbers.
-#[derive(Drop)]
+#[derive(Debug, Drop)]
 pub struct MemSink {
     octets: Vec<u8>,
     fails: Vec<u64>,
@@ -133,13 +132,12 @@ impl Sink for MemSink {
     /// want of memory. It takes at most 4,096 octets.
     fn write(&mut self, from: &[u8]) -> Result<usize, Failed>
         ensures octets { WritesSome (Some self.old.written) (Some self.new.written) result from.now }
-        ensures cause { HasCause self.old.faults self.new.faults result }
+        ensures counted { CountsFailures self.old.faults self.new.faults result }
         ensures calls { self.new.calls ≡ next_count self.old.calls }
         ensures fails { self.new.fails ≡ self.old.fails }
         ensures failing { IsTrue (call_fails self.old.fails self.old.calls) → IsErr result }
-        ensures counted { OnErr result (self.new.faults ≡ next_count self.old.faults) }
+        ensures one_more { OnErr result (self.new.faults ≡ next_count self.old.faults) }
         ensures moved { IfOk result (λ count. count ≡ min (length from.now) 4096) }
-        ensures quiet { OnOk result (self.new.faults ≡ self.old.faults) }
     {
         self.calls = self.calls.saturating_add(1);
         let count = from.len().min(MOST_IN_A_CALL);

@@ -5,10 +5,10 @@ ghost use Rattle.job_model.specs.JobText.{IsJobText, IsNoJob};
 ghost use Rattle.answer_model.specs.Count.{Rose};
 ghost use Rattle.mount_run.specs.declared.words.Command.{Command};
 ghost use Rattle.mount_run.specs.Words.{command_of as command_in};
-ghost use Rattle.mount_run.specs.Answers.{IsDone, IsCut, TookNoJob};
+ghost use Rattle.mount_run.specs.InputAndOutput.{IsDone, IsCut, TookNoJob, TookSome};
 
 use crate::answer::answer;
-use crate::ends::{Sink, Source};
+use crate::source_and_sink::{Sink, Source};
 use crate::status::{BAD_JOB, MEMORY, OK, READ_FAULT, USAGE, WRITE_FAULT};
 use crate::stream::{TakeError, give_all, take_all};
 use crate::words::command_of;
@@ -30,8 +30,9 @@ pub fn run_alone<S: Source, K: Sink>(
     // The input was read to its end and is one whole job, and what was written is its report or its show text.
     ensures ok { result ≡ OK → IsDone (map string_bytes words.now) (S.left input.old) (S.left input.new) (K.written output.old) (K.written output.new) }
 
-    // Memory ran out. Nothing is written.
-    ensures memory { result ≡ MEMORY → Keeps (K.written output.old) (K.written output.new) }
+    // Memory ran out. Nothing is written, and no more is read than a job may have, and one octet.
+    ensures memory { result ≡ MEMORY → TookSome (S.left input.old) (S.left input.new) }
+    ensures memory_alone { result ≡ MEMORY → Keeps (K.written output.old) (K.written output.new) }
 
     // The words are no command. Nothing is read or written.
     ensures usage { (result ≡ USAGE) ↔ (command_in (map string_bytes words.now) ≡ None) }
@@ -41,15 +42,16 @@ pub fn run_alone<S: Source, K: Sink>(
     ensures bad_job { result ≡ BAD_JOB → TookNoJob (S.left input.old) (S.left input.new) }
     ensures bad_job_alone { result ≡ BAD_JOB → Keeps (K.written output.old) (K.written output.new) }
 
-    // A read failed. Nothing is written.
-    ensures read_fault { result ≡ READ_FAULT → Rose (S.count input.old) (S.count input.new) }
+    // A read failed, and no write. Nothing is written, and no more is read than with want of memory.
+    ensures read_fault { result ≡ READ_FAULT → Rose (S.count input.old) (S.count input.new) × (K.count output.new ≡ K.count output.old) }
+    ensures read_part { result ≡ READ_FAULT → TookSome (S.left input.old) (S.left input.new) }
     ensures read_fault_alone { result ≡ READ_FAULT → Keeps (K.written output.old) (K.written output.new) }
 
-    // A write failed. A front of the output is written.
-    ensures write_fault { result ≡ WRITE_FAULT → Rose (K.count output.old) (K.count output.new) }
+    // A write failed, and no read. A front of the output is written.
+    ensures write_fault { result ≡ WRITE_FAULT → Rose (K.count output.old) (K.count output.new) × (S.count input.new ≡ S.count input.old) }
     ensures cut { result ≡ WRITE_FAULT → IsCut (map string_bytes words.now) (S.left input.old) (S.left input.new) (K.written output.old) (K.written output.new) }
 
-    // Every other answer comes only where no read and no write failed.
+    // With any other answer no read and no write failed.
     ensures calm { result < READ_FAULT → (S.count input.new ≡ S.count input.old) × (K.count output.new ≡ K.count output.old) }
 
     // Where no read and no write failed, a job is done and anything else is refused, unless memory ran out.
@@ -68,12 +70,12 @@ pub fn run_alone<S: Source, K: Sink>(
         Err(TakeError::Failed) => return READ_FAULT,
         Err(TakeError::Memory) => return MEMORY,
     };
-    let made = match answer(alloc, command, octets) {
-        Ok(made) => made,
+    let text = match answer(alloc, command, octets) {
+        Ok(text) => text,
         Err(JobError::Bad) => return BAD_JOB,
         Err(JobError::Memory) => return MEMORY,
     };
-    match give_all(output, &made) {
+    match give_all(output, &text) {
         Ok(()) => OK,
         Err(_) => WRITE_FAULT,
     }

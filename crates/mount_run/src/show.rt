@@ -1,33 +1,20 @@
-ghost use Rattle.std.specs.Prelude.{◌≡◌, ◌≤◌, ◌+◌, length, slice_get, Some, map, IfOk};
-ghost use Rattle.lower_model.specs.LowerTree.{IsLowerTree};
-ghost use Rattle.tree_model.specs.Listing.{numbered};
+ghost use Rattle.std.specs.Prelude.{◌≡◌, ◌≤◌, ◌+◌, [], length, Some, IfOk, OnOk};
 ghost use Rattle.job_model.specs.Job.{IsJob};
-ghost use Rattle.content_model.specs.Content.{Ring as RingValue};
-ghost use Rattle.show_model.specs.Show.{Shows, TellsItems, TellsNode, told_of, place_of, ring_of};
+ghost use Rattle.show_model.specs.Show.{Shows, TellsNode};
+ghost use Rattle.mount_run.specs.ShowLines.{AddsLine, AddsLines};
 
 use crate::ring::JobRing;
-use content_model::Content;
 use extent_file::decode_body;
 use job_text::Job;
-use lower_model::{Items, Kind, LowerNode};
+use lower_model::{Kind, LowerNode};
 use plain_names::listed_paths;
-use report_text::write_show;
+use report_text::{put_show_end, put_show_head, put_show_item};
 use show_model::{ShowItem, ShowWhat};
 use std::alloc::{AllocError, Global};
 use tree_model::Path;
 
-fn told(content: Content) -> ShowWhat
-    ensures { result ≡ told_of content }
-{
-    match content {
-        Content::Empty => ShowWhat::Empty,
-        Content::Good(octets) => ShowWhat::Good(octets),
-        Content::Bad(cause) => ShowWhat::Bad(cause),
-    }
-}
-
-// What stands at a node.
-fn what(alloc: Global, node: &LowerNode, ring: &JobRing) -> Result<ShowWhat, AllocError>
+// What stands at a node, a file with its content.
+fn node_content(alloc: Global, node: &LowerNode, ring: &JobRing) -> Result<ShowWhat, AllocError>
     ensures { IfOk result (λ what. TellsNode (record { signature = ring.now.signature; kek = ring.now.kek }) (Some node.now) what) }
 {
     if node.kind == Kind::Dir {
@@ -38,41 +25,60 @@ fn what(alloc: Global, node: &LowerNode, ring: &JobRing) -> Result<ShowWhat, All
         None => None,
     };
     let content = decode_body(alloc, node.body.as_slice(), attribute, ring)?;
-    Ok(told(content))
+    Ok(ShowWhat::File(content))
 }
 
-// The nodes but the root, each with its path, and what stands there.
-fn items(
+// Adds the line of the node with this number.
+fn put_node(
     alloc: Global,
+    out: &mut Vec<u8>,
+    number: u32,
+    path: Path,
+    node: &LowerNode,
+    ring: &JobRing,
+) -> Result<(), AllocError>
+    ensures { OnOk result (AddsLine (record { signature = ring.now.signature; kek = ring.now.kek }) number path node.now out.old.items out.new.items) }
+{
+    let what = node_content(alloc, node, ring)?;
+    let item = ShowItem {
+        node: number,
+        path,
+        what,
+    };
+    put_show_item(out, &item)
+}
+
+// Adds the lines of the nodes but the root, by their numbers. One content at a time is in memory.
+fn put_nodes(
+    alloc: Global,
+    out: &mut Vec<u8>,
     nodes: &[LowerNode],
     paths: Vec<Path>,
     ring: &JobRing,
-) -> Result<Vec<ShowItem>, AllocError>
+) -> Result<(), AllocError>
     requires count { length paths.items + 1 ≡ length nodes.now }
     requires few { length nodes.now ≤ 4096 }
-    ensures places { IfOk result (λ items. map place_of items.items ≡ numbered 1 paths.items) }
-    ensures told { IfOk result (λ items. TellsItems (record { signature = ring.now.signature; kek = ring.now.kek }) nodes.now items.items) }
+    ensures { OnOk result (AddsLines (record { signature = ring.now.signature; kek = ring.now.kek }) nodes.now paths.items out.old.items out.new.items) }
 {
-    let mut items = Vec::with_capacity(alloc, paths.len())?;
     for (k, path) in paths.into_iter().enumerate() {
-        let what = what(alloc, &nodes[k + 1], ring)?;
-        items.push(ShowItem {
-            node: (k + 1) as u32,
-            path,
-            what,
-        })?;
+        put_node(alloc, out, (k + 1) as u32, path, &nodes[k + 1], ring)?;
     }
-    Ok(items)
+    Ok(())
 }
 
-/// The show text of a job's image.
-pub fn show(alloc: Global, job: &Job) -> Result<Vec<u8>, AllocError>
-    requires { IsJob job.now }
+/// The show text of a job's image, written into this room.
+pub fn show(alloc: Global, job: &Job, room: Vec<u8>) -> Result<Vec<u8>, AllocError>
+    requires lawful { IsJob job.now }
+    requires empty { room.items ≡ [] }
     ensures { IfOk result (λ output. Shows job.now output.items) }
 {
     let paths = listed_paths(alloc, &job.image)?;
+    let mut out = room;
+    put_show_head(&mut out)?;
     let ring = JobRing::new(&job.salt, job.passphrase.as_slice());
-    let items = items(alloc, job.image.nodes(), paths, &ring);
+    let added = put_nodes(alloc, &mut out, job.image.nodes(), paths, &ring);
     ring.end();
-    write_show(alloc, &items?)
+    added?;
+    put_show_end(&mut out)?;
+    Ok(out)
 }

@@ -1,15 +1,14 @@
-ghost use Rattle.std.specs.Prelude.{◌≡◌, ◌≤◌, ◌+◌, ℕ, length, take, IfOk, OnOk, OnErr, Err};
-ghost use Rattle.std.specs.Io.KnownBytes.{Consumes, IsAtEnd, Appends};
+ghost use Rattle.std.specs.Prelude.{◌≡◌, ◌≤◌, ℕ, length, take, IfOk, OnOk, OnErr, Err};
+ghost use Rattle.std.specs.Io.KnownBytes.{Appends};
 ghost use Rattle.answer_model.specs.Count.{Rose};
+ghost use Rattle.mount_run.specs.InputAndOutput.{Took, TookSome};
 
-use crate::ends::{Failed, Sink, Source};
+use crate::source_and_sink::{Failed, Sink, Source};
+use job_model::MOST_OCTETS;
 use std::alloc::{AllocError, Global};
 
-/// The most octets that a job may have.
-const MOST_OCTETS: usize = 268_435_456;
-
 /// The most octets that one read may move.
-const PIECE: usize = 4096;
+const PIECE: usize = 65_536;
 
 /// Why the input wasn't taken.
 #[derive(Debug, Drop)]
@@ -42,12 +41,10 @@ impl From<AllocError> for TakeError {
 
 /// Takes octets to the end of the input, or until there is one more than a job may have.
 pub fn take_all<S: Source>(alloc: Global, input: &mut S) -> Result<Vec<u8>, TakeError>
-    ensures taken { IfOk result (λ taken. Consumes (S.left input.old) (S.left input.new) taken.items) }
-    ensures whole { IfOk result (λ taken. length taken.items ≤ MOST_OCTETS → IsAtEnd (S.left input.new)) }
-    ensures most { IfOk result (λ taken. length taken.items ≤ MOST_OCTETS + 1) }
-    ensures later { S.count input.old ≤ S.count input.new }
-    ensures calm { IfOk result (λ _. S.count input.new ≡ S.count input.old) }
-    ensures starved { result ≡ Err TakeError.Memory → S.count input.new ≡ S.count input.old }
+    ensures taken { IfOk result (λ taken. Took (S.left input.old) (S.left input.new) taken.items) }
+    ensures part { OnErr result (TookSome (S.left input.old) (S.left input.new)) }
+    ensures calm { OnOk result (S.count input.new ≡ S.count input.old) }
+    ensures memory { result ≡ Err TakeError.Memory → S.count input.new ≡ S.count input.old }
     ensures failed { result ≡ Err TakeError.Failed → Rose (S.count input.old) (S.count input.new) }
 {
     let mut taken = Vec::new(alloc);
@@ -67,7 +64,6 @@ pub fn take_all<S: Source>(alloc: Global, input: &mut S) -> Result<Vec<u8>, Take
 pub fn give_all<K: Sink>(output: &mut K, octets: &[u8]) -> Result<(), Failed>
     ensures ok { OnOk result (Appends (K.written output.old) (K.written output.new) octets.now) }
     ensures part { OnErr result ((n : ℕ) × Appends (K.written output.old) (K.written output.new) (take n octets.now)) }
-    ensures later { K.count output.old ≤ K.count output.new }
     ensures calm { OnOk result (K.count output.new ≡ K.count output.old) }
     ensures failed { OnErr result (Rose (K.count output.old) (K.count output.new)) }
 {

@@ -9,7 +9,7 @@ use Rattle.session_model.specs.declared.op.Op.{Op}
 use Rattle.session_model.specs.declared.op.Op.TheVariants as ops
 use Rattle.session_model.specs.declared.op.Reply.{Reply}
 use Rattle.session_model.specs.declared.entry.TreeEntry.{TreeEntry}
-use Rattle.session_model.specs.TreeLog.{IsLegal, JoinsUp, IsTreeLog}
+use Rattle.session_model.specs.TreeLog.{IsLegal, JoinsUp, IsTreeLog, AreFaultless}
 use Rattle.session_model.specs.ScriptCalls.{Slots, CallsTree, IsDone, AreDone, AreScriptCalls, closed_slots}
 use Rattle.one_session.specs.OneSession.{call_of, AreOwn, DoesOp, RunsScript}
 
@@ -70,6 +70,10 @@ filter-own (e ∷ log) own = rw (eq-eqb e.session 0 own.0.0) (ap (λ (l : List T
 below_one : (log : List TreeEntry) → AreOwn log → AllByRecursion (λ (e : TreeEntry). e.session < 1) log
 below_one [] own = tt
 below_one (e ∷ log) own = (let zero : e.session ≡ 0 = own.0.0 in omega arith, below_one log own.1)
+
+pub no_faults : (log : List TreeEntry) → AreOwn log → AreFaultless log
+no_faults [] own = tt
+no_faults (e ∷ log) own = ((own.0.1, own.0.2), no_faults log own.1)
 
 pub tree_log : (script : List Op) (old new : PlainTree) (log : List TreeEntry) (replies : List Reply) → RunsScript script old new log replies → IsTreeLog old log new
 tree_log script old new log replies runs = record { legal = runs.legal; counts = JoinsUp-own log runs.are_own }

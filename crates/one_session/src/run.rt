@@ -1,8 +1,7 @@
 ghost use Rattle.std.specs.Prelude.{◌≡◌, ◌<◌, ◌≤◌, ◌+◌, ◌^◌, List, [], ◌∷◌, ◌++◌, length, IfOk, OnErr, vec_len, vec_capacity};
 ghost use Rattle.session_model.specs.declared.entry.TreeEntry.{TreeEntry};
-ghost use Rattle.session_model.specs.TreeLog.{IsTreeLog};
+ghost use Rattle.session_model.specs.TreeLog.{IsTreeLog, AreFaultless};
 ghost use Rattle.session_model.specs.ScriptCalls.{AreScriptCalls};
-ghost use Rattle.std.specs.List.{AllByRecursion};
 ghost use Rattle.one_session.specs.OneSession.{DoesOp};
 
 use crate::copy::{call_of, copied_reply};
@@ -49,7 +48,7 @@ pub fn run_script(alloc: Global, tree: &mut Tree, script: Vec<Op>) -> Result<Ran
     requires { length script.items < 2 ^ 32 }
     ensures tree_history { IfOk result (λ ran. IsTreeLog tree.old ran.log.items tree.new) }
     ensures script_calls { IfOk result (λ ran. AreScriptCalls (script.items ∷ []) (record { tree = ran.log.items }) (ran.replies.items ∷ [])) }
-    ensures faultless { IfOk result (λ ran. AllByRecursion (λ (e : TreeEntry). (e.session ≡ 0) × (e.before ≡ 0) × (e.after ≡ 0)) ran.log.items) }
+    ensures no_faults { IfOk result (λ ran. AreFaultless ran.log.items) }
     ensures err { OnErr result (tree.new ≡ tree.old) }
 {
     let mut log = Vec::with_capacity(alloc, script.len())?;

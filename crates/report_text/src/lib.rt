@@ -6,8 +6,6 @@ mod entry;
 mod reply;
 mod report;
 mod show;
-#[cfg(test)]
-mod tests;
 
 pub use report::write_report;
-pub use show::write_show;
+pub use show::{put_show_end, put_show_head, put_show_item, write_show};

@@ -1,10 +1,11 @@
-ghost use Rattle.std.specs.Prelude.{◌≡◌, ◌∷◌, ◌++◌, [], codes, IfOk, OnOk};
-ghost use Rattle.std.specs.List.{flat_map, join_with_byte};
+ghost use Rattle.std.specs.Prelude.{◌≡◌, ◌∷◌, ◌++◌, [], IfOk, OnOk};
+ghost use Rattle.std.specs.List.{flat_map};
 ghost use Rattle.line_writer.specs.Fields.{spaced};
 ghost use Rattle.text_model.specs.Line.{number, hex};
 ghost use Rattle.show_model.specs.CauseText.{cause_fields};
-ghost use Rattle.show_model.specs.ShowText.{data_field, kind_letter as letter_of_kind, told_fields, item_line, show_text};
+ghost use Rattle.show_model.specs.ShowText.{content_fields, data_field, item_line, kind_letter as letter_of_kind, show_end, show_head, show_text, what_fields};
 
+use content_model::Content;
 use line_writer::{put_hex, put_line_end, put_number, put_path, put_space, put_word};
 use packet_model::BadCause;
 use show_model::{ShowItem, ShowWhat};
@@ -86,22 +87,30 @@ fn put_data(out: &mut Vec<u8>, octets: &[u8]) -> Result<(), AllocError>
     put_hex(out, octets)
 }
 
-// What is told behind the path.
-fn put_told(out: &mut Vec<u8>, what: &ShowWhat) -> Result<(), AllocError>
-    ensures { OnOk result (out.new.items ≡ out.old.items ++ spaced (told_fields what.now)) }
+fn put_content(out: &mut Vec<u8>, content: &Content) -> Result<(), AllocError>
+    ensures { OnOk result (out.new.items ≡ out.old.items ++ spaced (content_fields content.now)) }
 {
-    match what {
-        ShowWhat::Dir => Ok(()),
-        ShowWhat::Empty => put_word_field(out, "empty"),
-        ShowWhat::Good(octets) => {
+    match content {
+        Content::Empty => put_word_field(out, "empty"),
+        Content::Good(octets) => {
             put_count(out, "good", octets.len() as u64)?;
             put_space(out)?;
             put_data(out, octets.as_slice())
         }
-        ShowWhat::Bad(cause) => {
+        Content::Bad(cause) => {
             put_word_field(out, "bad")?;
             put_cause(out, cause)
         }
+    }
+}
+
+// What a line tells behind the path.
+fn put_what(out: &mut Vec<u8>, what: &ShowWhat) -> Result<(), AllocError>
+    ensures { OnOk result (out.new.items ≡ out.old.items ++ spaced (what_fields what.now)) }
+{
+    match what {
+        ShowWhat::Dir => Ok(()),
+        ShowWhat::File(content) => put_content(out, content),
     }
 }
 
@@ -110,26 +119,41 @@ fn kind_letter(what: &ShowWhat) -> &'static str
 {
     match what {
         ShowWhat::Dir => "d",
-        ShowWhat::Empty | ShowWhat::Good(_) | ShowWhat::Bad(_) => "f",
+        ShowWhat::File(_) => "f",
     }
 }
 
-fn put_item(out: &mut Vec<u8>, item: &ShowItem) -> Result<(), AllocError>
+/// Adds the first line of a show text.
+pub fn put_show_head(out: &mut Vec<u8>) -> Result<(), AllocError>
+    ensures { OnOk result (out.new.items ≡ out.old.items ++ show_head) }
+{
+    put_word(out, "ecryptfs-show 1\n")
+}
+
+/// Adds the line of a node.
+pub fn put_show_item(out: &mut Vec<u8>, item: &ShowItem) -> Result<(), AllocError>
     ensures { OnOk result (out.new.items ≡ out.old.items ++ item_line item.now) }
 {
     put_word(out, kind_letter(&item.what))?;
     put_number_field(out, item.node as u64)?;
     put_space(out)?;
     put_path(out, &item.path)?;
-    put_told(out, &item.what)?;
+    put_what(out, &item.what)?;
     put_line_end(out)
+}
+
+/// Adds the last line of a show text.
+pub fn put_show_end(out: &mut Vec<u8>) -> Result<(), AllocError>
+    ensures { OnOk result (out.new.items ≡ out.old.items ++ show_end) }
+{
+    put_word(out, "end\n")
 }
 
 fn put_items(out: &mut Vec<u8>, items: &[ShowItem]) -> Result<(), AllocError>
     ensures { OnOk result (out.new.items ≡ out.old.items ++ flat_map item_line items.now) }
 {
     for item in items {
-        put_item(out, item)?;
+        put_show_item(out, item)?;
     }
     Ok(())
 }
@@ -139,8 +163,8 @@ pub fn write_show(alloc: Global, items: &[ShowItem]) -> Result<Vec<u8>, AllocErr
     ensures { IfOk result (λ out. out.items ≡ show_text items.now) }
 {
     let mut out = Vec::new(alloc);
-    put_word(&mut out, "ecryptfs-show 1\n")?;
+    put_show_head(&mut out)?;
     put_items(&mut out, items)?;
-    put_word(&mut out, "end\n")?;
+    put_show_end(&mut out)?;
     Ok(out)
 }

@@ -1,1 +1,2 @@
+mod NoFaults
 mod ReportValues

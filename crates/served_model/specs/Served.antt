@@ -4,7 +4,7 @@ use Rattle.lower_model.specs.declared.node.LowerNode.{LowerNode}
 use Rattle.lower_model.specs.LowerTree.{IsLowerTree}
 use Rattle.tree_model.specs.PlainTree.{PlainTree}
 use Rattle.tree_model.specs.Shown.{shown, Carries, KeepsFiles}
-use Rattle.session_model.specs.TreeLog.{IsTreeLog}
+use Rattle.session_model.specs.TreeLog.{IsTreeLog, AreFaultless}
 use Rattle.session_model.specs.ScriptCalls.{AreScriptCalls}
 use Rattle.job_model.specs.declared.job.Job.{Job}
 use Rattle.job_model.specs.declared.limits.TheConstants.{LONGEST_PLAIN_NAME}
@@ -19,6 +19,8 @@ pub record CarriesTree (nodes : List LowerNode) (tree : PlainTree) : Type 0 wher
 pub record Serves (job : Job) (report : Report) (end : PlainTree) : Type 0 where
   -- the tree's history is one that a plain tree could have had, from the tree that the job's image shows
   pub tree_history : IsTreeLog (shown LONGEST_PLAIN_NAME job.image) report.histories.tree end
+  -- so far no part of a run can fail, so no turn of it counts a fault
+  pub no_faults : AreFaultless report.histories.tree
   -- it holds each session's calls once, in its order, with the replies that it got, and no others
   pub script_calls : AreScriptCalls job.scripts report.histories report.sessions
   -- the printed image carries the tree at the end

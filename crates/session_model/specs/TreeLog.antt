@@ -1,5 +1,6 @@
 -- Which lists of turns a plain tree could have had.
 use Rattle.std.specs.Prelude.{ℕ, ◌≡◌, ◌≤◌, List, [], ◌∷◌}
+use Rattle.std.specs.List.{AllByRecursion}
 use Rattle.answer_model.specs.Count.{Rose}
 use Rattle.tree_model.specs.declared.call.TreeCall.{TreeCall}
 use Rattle.tree_model.specs.declared.call.TreeReply.{TreeReply}
@@ -27,6 +28,10 @@ abbrev pub JoinsUp : List TreeEntry → Type 0
 JoinsUp [] = Unit {0}
 JoinsUp (e ∷ []) = Unit {0}
 JoinsUp (e ∷ f ∷ log) = (f.before ≡ e.after) × JoinsUp (f ∷ log)
+
+-- In these turns no fault was counted.
+abbrev pub AreFaultless : List TreeEntry → Type 0
+AreFaultless log = AllByRecursion (λ (e : TreeEntry). (e.before ≡ 0) × (e.after ≡ 0)) log
 
 -- The log of a plain tree.
 pub record IsTreeLog (old : PlainTree) (log : List TreeEntry) (new : PlainTree) : Type 0 where

@@ -9,27 +9,21 @@ use Rattle.tree_model.specs.Listing.{ListsTree}
 use Rattle.key_model.specs.PassphraseKey.{passphrase_key, key_signature}
 use Rattle.content_model.specs.Content.{Ring, IsContent}
 use Rattle.content_model.specs.declared.content.Content.{Content}
-use Rattle.content_model.specs.declared.content.Content.TheVariants as contents
 use Rattle.job_model.specs.declared.limits.TheConstants.{LONGEST_PLAIN_NAME}
 use Rattle.job_model.specs.declared.job.Job.{Job}
 use Rattle.show_model.specs.declared.item.ShowItem.{ShowItem}
 use Rattle.show_model.specs.declared.item.ShowWhat.{ShowWhat}
-use Rattle.show_model.specs.declared.item.ShowWhat.TheVariants.{Dir, Empty, Good, Bad}
+use Rattle.show_model.specs.declared.item.ShowWhat.TheVariants.{Dir, File}
 use Rattle.show_model.specs.ShowText.{show_text}
 
 -- the key of a passphrase under a salt, and its signature
 abbrev pub ring_of : List ℕ → List ℕ → Ring
 ring_of salt passphrase = record { signature = key_signature (passphrase_key salt passphrase); kek = passphrase_key salt passphrase }
 
-abbrev pub told_of : Content → ShowWhat
-told_of contents.Empty = Empty
-told_of (contents.Good octets) = Good octets
-told_of (contents.Bad cause) = Bad cause
-
 -- a directory is told as such, a file by its content
 abbrev pub TellsKind : Ring → Kind → LowerNode → ShowWhat → Type 0
 TellsKind ring kinds.Dir node what = what ≡ Dir
-TellsKind ring kinds.File node what = (content : Content) × IsContent ring node.body node.attribute content × (what ≡ told_of content)
+TellsKind ring kinds.File node what = (content : Content) × IsContent ring node.body node.attribute content × (what ≡ File content)
 
 abbrev pub TellsNode : Ring → Option LowerNode → ShowWhat → Type 0
 TellsNode ring (Some node) what = TellsKind ring node.kind node what
@@ -39,12 +33,13 @@ TellsNode ring None what = ⊥
 abbrev pub TellsItems : Ring → List LowerNode → List ShowItem → Type 0
 TellsItems ring nodes items = AllByRecursion (λ item. TellsNode ring (slice_get nodes item.node) item.what) items
 
-abbrev pub place_of : ShowItem → List (List ℕ) × ℕ
-place_of item = (item.path, item.node)
+-- an item as a listing has it
+abbrev pub numbered_path : ShowItem → List (List ℕ) × ℕ
+numbered_path item = (item.path, item.node)
 
 -- These items tell all nodes of a job's image but the root, in the order of a listing.
 pub record TellsImage (job : Job) (items : List ShowItem) : Type 0 where
-  pub listed : ListsTree (shown LONGEST_PLAIN_NAME job.image) (map place_of items)
+  pub listed : ListsTree (shown LONGEST_PLAIN_NAME job.image) (map numbered_path items)
   pub told : TellsItems (ring_of job.salt job.passphrase) job.image items
 
 -- The output is the show text of a job's image.

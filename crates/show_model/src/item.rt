@@ -1,5 +1,4 @@
-use lower_model::Items;
-use packet_model::BadCause;
+use content_model::Content;
 use tree_model::Path;
 
 /// What stands at a node.
@@ -7,12 +6,8 @@ use tree_model::Path;
 pub enum ShowWhat {
     /// A directory.
     Dir,
-    /// A file that has neither a body nor the attribute.
-    Empty,
-    /// A file that decodes to these octets.
-    Good(Items<u8>),
-    /// A file that can't be decoded, for this cause.
-    Bad(BadCause),
+    /// A file, and what it decodes to.
+    File(Content),
 }
 
 /// A line of a show text.

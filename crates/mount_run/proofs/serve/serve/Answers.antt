@@ -17,6 +17,7 @@ returns c =
       one = c.only_script.ensures;
       is_shown = c.in_ok-tree.ensures;
       history = c.in_ok-ran.ensures.tree_history;
+      no_faults = c.in_ok-ran.ensures.no_faults;
       calls = c.in_ok-ran.ensures.script_calls;
       lawful = c.in_ok-after.ensures.lawful;
       carries = c.in_ok-after.ensures.carried;

@@ -1,24 +1,29 @@
-use Rattle.std.proofs.Common.{◌≡◌, ℕ, List, ap, subst, sym, ◌∙◌}
+use Rattle.std.proofs.Common.{◌≡◌, ◌++◌, ℕ, List, ap, subst, sym, ◌∙◌}
+use Rattle.std.specs.List.{flat_map}
 use Rattle.lower_model.specs.declared.node.LowerNode.{LowerNode}
 use Rattle.tree_model.specs.Listing.{ListsTree}
 use Rattle.tree_model.specs.Shown.{shown}
 use Rattle.content_model.specs.Content.{Ring}
-use Rattle.show_model.specs.ShowText.{show_text}
-use Rattle.show_model.specs.Show.{Shows, TellsImage, TellsItems, ring_of}
+use Rattle.show_model.specs.ShowText.{show_head, show_end, item_line}
+use Rattle.show_model.specs.Show.{TellsImage, TellsItems, ring_of}
+use Rattle.mount_run.specs.ShowLines.{AddsLines}
 use Rattle.mount_run.specs.declared.ring.JobRing.{JobRing}
-use Rattle.mount_run.proofs.Serving.{if_ok}
 use Rattle.mount_run.proofs.show.show.Goals as goal
 
 pub returns : goal.returns
 returns c =
     let job = c.args.job.now in
-    let items = c.in_ok-items.field-0.items in
     let of : JobRing → Ring = λ ring. record { signature = ring.signature; kek = ring.kek } in
     let ring : of c.new-ring.result ≡ ring_of job.salt job.passphrase =
     ap of c.new-ring.ensures ∙ ap (λ (passphrase : List ℕ). ring_of job.salt passphrase) c.as_slice.ensures in
-    let tells : TellsImage job items = record {
-      listed = subst (λ listing. ListsTree (shown 255 job.image) listing) (sym c.in_ok-items.ensures.places) (c.in_ok-paths.ensures.listed 255);
-      told = subst (λ (r : Ring). TellsItems r job.image items) ring (subst (λ (nodes : List LowerNode). TellsItems (of c.new-ring.result) nodes items) c.nodes.ensures.nodes c.in_ok-items.ensures.told);
+    let added = c.in_ok-added.ensures in
+    let tells : TellsImage job added.items = record {
+      listed = subst (λ listing. ListsTree (shown 255 job.image) listing) (sym added.numbers) (c.in_ok-paths.ensures.listed 255);
+      told = subst (λ (r : Ring). TellsItems r job.image added.items) ring (subst (λ (nodes : List LowerNode). TellsItems (of c.new-ring.result) nodes added.items) c.nodes.ensures.nodes added.told);
     } in
-    if_ok c.write_show.result (λ out. out.items ≡ show_text c.deref.result.now) (λ out. Shows job out.items) c.write_show.ensures
-    (λ out text. record { items = items; tells = tells; text = text ∙ ap show_text c.deref.ensures.value })
+    record {
+      items = added.items;
+      tells = tells;
+      text = c.in_ok-put_show_end.ensures ∙ ap (λ (t : List ℕ). t ++ show_end) (added.text ∙ ap (λ (t : List ℕ). t ++ flat_map item_line added.items)
+          (c.in_ok-put_show_head.ensures ∙ ap (λ (t : List ℕ). t ++ show_head) c.requires.empty));
+    }

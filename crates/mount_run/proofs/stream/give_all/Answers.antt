@@ -8,7 +8,7 @@ loop-at-preserved g c =
     let given = rw take_rest at c.in_ok-count.ensures.octets.2 in
     let count = rw take_rest at c.in_ok-count.ensures.octets.0 in
     record {
-      calm = c.in_ok-count.ensures.quiet ∙ c.loop-at.invariant.calm;
+      calm = c.in_ok-count.ensures.counted ∙ c.loop-at.invariant.calm;
       given = appends_on _ _ _ c.loop-at.at c.in_ok-count.count c.args.octets.now c.loop-at.invariant.given given;
       within = omega (arith, count, length-drop c.loop-at.at c.args.octets.now, c.loop-at-test.true);
     }

@@ -1,7 +1,7 @@
 use Rattle.std.proofs.Common.{◌≡◌, length, subst, ◌∙◌, arith}
 use Rattle.std.proofs.lemmas.Grind.{common_steps}
 use Rattle.one_session.specs.OneSession.{RunsScript}
-use Rattle.one_session.proofs.Runs.{runs_more, tree_log, script_calls}
+use Rattle.one_session.proofs.Runs.{runs_more, no_faults, tree_log, script_calls}
 use Rattle.one_session.proofs.run.run_script.Goals as goal
 
 pub loop-op-preserved : goal.loop-op-preserved
@@ -29,5 +29,5 @@ returns-clause-tree_history c = tree_log _ _ _ _ _ (whole c)
 pub returns-clause-script_calls : goal.returns-clause-script_calls
 returns-clause-script_calls c = script_calls _ _ _ _ _ (whole c)
 
-pub returns-clause-faultless : goal.returns-clause-faultless
-returns-clause-faultless c = (whole c).are_own
+pub returns-clause-no_faults : goal.returns-clause-no_faults
+returns-clause-no_faults c = no_faults _ (whole c).are_own

@@ -1,5 +1,5 @@
--- What the answers of a run tell of its input and its output.
-use Rattle.std.specs.Prelude.{◌≡◌, ℕ, ◌≤◌, List, length, take, Option, Some}
+-- What a run takes from its input, and what it writes.
+use Rattle.std.specs.Prelude.{◌≡◌, ℕ, ◌+◌, ◌≤◌, List, length, take, Option, Some}
 use Rattle.std.specs.Io.KnownBytes.{Consumes, IsAtEnd, Appends}
 use Rattle.job_model.specs.declared.job.Job.{Job}
 use Rattle.job_model.specs.declared.limits.TheConstants.{MOST_OCTETS}
@@ -10,15 +10,26 @@ use Rattle.mount_run.specs.declared.words.Command.{Command}
 use Rattle.mount_run.specs.declared.words.Command.TheVariants.{Replay, Show}
 use Rattle.mount_run.specs.Words.{command_of}
 
+-- The most octets that a run takes: one more than a job may have, by which a longer input is known.
+abbrev pub most_taken : ℕ
+most_taken = MOST_OCTETS + 1
+
+-- Some octets were taken from the source, or none, and no more than a run takes.
+pub record TookSome (left_old left_new : Option (List ℕ)) : Type 0 where
+  pub octets : List ℕ
+  pub taken : Consumes left_old left_new octets
+  pub few : length octets ≤ most_taken
+
 -- These octets were taken from the source, and they are all that it had, unless they are more than a job may have.
 pub record Took (left_old left_new : Option (List ℕ)) (octets : List ℕ) : Type 0 where
   pub taken : Consumes left_old left_new octets
+  pub few : length octets ≤ most_taken
   pub all : length octets ≤ MOST_OCTETS → IsAtEnd left_new
 
 -- what a command promises of its output
-abbrev pub Answers : Command → Job → List ℕ → Type 0
-Answers Replay job output = Served job output
-Answers Show job output = Shows job output
+abbrev pub Promises : Command → Job → List ℕ → Type 0
+Promises Replay job output = Served job output
+Promises Show job output = Shows job output
 
 -- The octets taken are one whole job, and this output is what the command that the words tell promises of it.
 pub record TookJob (words : List (List ℕ)) (left_old left_new : Option (List ℕ)) (output : List ℕ) : Type 0 where
@@ -28,7 +39,7 @@ pub record TookJob (words : List (List ℕ)) (left_old left_new : Option (List �
   pub octets : List ℕ
   pub took : Took left_old left_new octets
   pub text : IsJobText job octets
-  pub answers : Answers command job output
+  pub promised : Promises command job output
 
 -- Such an output was written, all of it.
 pub record IsDone (words : List (List ℕ)) (left_old left_new written_old written_new : Option (List ℕ)) : Type 0 where

@@ -1,5 +1,5 @@
-use crate::OK;
-use crate::tests::{answer, job};
+use crate::run::{job, run};
+use mount_run::OK;
 use std::alloc::{AllocError, Global};
 use std::test::Fail;
 
@@ -43,7 +43,7 @@ fn one_file(alloc: Global, attribute: Option<&[u8]>, body: &[u8]) -> Result<Vec<
 
 /// What `show` writes of an image; it has to answer `OK`.
 fn shown(alloc: Global, image: &[u8]) -> Result<Vec<u8>, Fail> {
-    let (status, text) = answer(alloc, "show", job(alloc, image, &["list /"])?, &[], &[])?;
+    let (status, text) = run(alloc, "show", job(alloc, image, &["list /"])?)?;
     if status != OK {
         return Err("show has to answer OK")?;
     }
@@ -116,19 +116,5 @@ fn a_tree_is_listed_in_its_order(rt: HostRuntime) -> Result<(), Fail> {
     let text = shown(alloc, image)?;
     let wanted = b"ecryptfs-show 1\nd 1 /a\nf 2 /a/b bad short 0\nd 3 /a/c\nf 4 /a%20 empty\nend\n";
     assert_eq!(rt; text.as_slice(), wanted.as_slice());
-    Ok(())
-}
-
-#[test]
-fn replay_carries_files_along(rt: HostRuntime) -> Result<(), Fail> {
-    let alloc = rt.alloc();
-    let image = one_file(alloc, Some(b"attribute"), b"a body")?;
-    let octets = job(alloc, &image, &["mkdir /a"])?;
-    let (status, report) = answer(alloc, "replay", octets, &[], &[])?;
-    assert_eq!(rt; status, OK);
-    let mut wanted = Vec::from_slice(alloc, b"ECRYIMG1\x00\x00\x00\x02\x00\x01\x00\x01a")?;
-    put_file(&mut wanted, b'f', Some(b"attribute"), b"a body")?;
-    wanted.extend_from_slice(b"\nend\n")?;
-    assert!(rt; report.ends_with(&wanted));
     Ok(())
 }

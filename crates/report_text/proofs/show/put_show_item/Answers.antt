@@ -1,5 +1,5 @@
 use Rattle.report_text.proofs.ItemFields.{item_line-parts}
-use Rattle.report_text.proofs.show.put_item.Goals as goal
+use Rattle.report_text.proofs.show.put_show_item.Goals as goal
 
 pub returns : goal.returns
 returns c =
@@ -10,5 +10,5 @@ returns c =
       ← c.in_ok-put_number_field.ensures {u = tt},
       ← c.in_ok-put_space.ensures.ok,
       ← c.in_ok-put_path.ensures.ok,
-      ← c.in_ok-put_told.ensures {u = tt},
+      ← c.in_ok-put_what.ensures {u = tt},
     ) c.put_line_end.ensures.ok

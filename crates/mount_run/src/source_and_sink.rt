@@ -1,7 +1,7 @@
-ghost use Rattle.std.specs.Prelude.{◌≡◌, ℕ, List, Option, OnOk};
+ghost use Rattle.std.specs.Prelude.{◌≡◌, ℕ, List, Option};
 ghost use Rattle.std.specs.Io.{ReadsAtMost};
 ghost use Rattle.std.specs.Io.KnownBytes.{ReadConsumes};
-ghost use Rattle.mount_run.specs.Causes.{HasCause, WritesSome};
+ghost use Rattle.mount_run.specs.SourceAndSink.{CountsFailures, WritesSome};
 
 /// A call on a source or a sink failed.
 #[derive(Clone, Copy, Debug, PartialEq, Eq)]
@@ -20,12 +20,11 @@ pub trait Source {
         ensures { result ≡ count self.now };
 
     /// Moves the next octets to the front of `to`. `Ok(0)` into a buffer that isn't empty is the end
-    /// of the input. It fails only where the count rises.
+    /// of the input. The count of failed reads rises where it fails, and nowhere else.
     fn read(&mut self, to: &mut [u8]) -> Result<usize, Failed>
         ensures within { ReadsAtMost result to.new }
         ensures octets { ReadConsumes (left self.old) (left self.new) result to.new }
-        ensures cause { HasCause (count self.old) (count self.new) result }
-        ensures quiet { OnOk result (count self.new ≡ count self.old) };
+        ensures counted { CountsFailures (count self.old) (count self.new) result };
 }
 
 /// Where octets go.
@@ -41,9 +40,8 @@ pub trait Sink {
         ensures { result ≡ count self.now };
 
     /// Takes octets from the front of a piece, at least one of a piece that isn't empty, and answers
-    /// how many. It fails only where the count rises, and then takes none.
+    /// how many. The count of failed writes rises where it fails, and nowhere else; a write that fails takes none.
     fn write(&mut self, from: &[u8]) -> Result<usize, Failed>
         ensures octets { WritesSome (written self.old) (written self.new) result from.now }
-        ensures cause { HasCause (count self.old) (count self.new) result }
-        ensures quiet { OnOk result (count self.new ≡ count self.old) };
+        ensures counted { CountsFailures (count self.old) (count self.new) result };
 }

@@ -1,0 +1,22 @@
+use Rattle.std.proofs.Common.{◌≤◌, List, ℕ, Result, Ok, Err, ◌++◌, length, take, arith}
+use Rattle.std.specs.Prelude.{OnErr}
+use Rattle.std.proofs.lemmas.Grind.{common_steps}
+use Rattle.std.proofs.lemmas.List.{length-append}
+use Rattle.std.proofs.KnownBytes.{Consumes-trans}
+use Rattle.mount_run.specs.InputAndOutput.{TookSome}
+use Rattle.mount_run.proofs.stream.take_all.Goals as goal
+
+on_err : {A E : Type 0} (r : Result A E) (P : Type 0) → P → OnErr r P
+on_err (Ok x) P holds = tt
+on_err (Err e) P holds = holds
+
+pub returns-in_err-extend_from_slice-clause-part : goal.returns-in_err-extend_from_slice-clause-part
+returns-in_err-extend_from_slice-clause-part g c =
+    let piece : List ℕ = take c.in_ok-count.count c.read.new.to in
+    let taken : List ℕ = c.loop-buffer.taken.items in
+    let part : TookSome (g.S.Source.left c.args.input.now) (g.S.Source.left c.read.new.self) = record {
+      octets = taken ++ piece;
+      taken = Consumes-trans _ _ _ taken piece c.loop-buffer.invariant.taken c.in_ok-count.ensures.octets.0;
+      few = grind (arith, common_steps, length-append taken piece, c.in_ok-count.ensures.within, c.read.auto.to);
+    } in
+    on_err _ _ part
