@@ -5,7 +5,7 @@ use Rattle.std.specs.List.{AllByRecursion}
 use Rattle.std.proofs.lemmas.List.{map-append}
 use Rattle.lower_model.specs.declared.node.LowerNode.{LowerNode}
 use Rattle.tree_model.specs.Listing.{numbered}
-use Rattle.content_model.specs.Content.{Ring}
+use Rattle.key_model.specs.SignedKey.{SignedKey}
 use Rattle.show_model.specs.declared.item.ShowItem.{ShowItem}
 use Rattle.show_model.specs.Show.{TellsNode, TellsItems, place_of}
 
@@ -14,7 +14,7 @@ all_more P [] x all one = (one, tt)
 all_more P (first ∷ xs) x all one = (all.0, all_more P xs x all.1 one)
 
 -- an item that tells its node, behind items that tell theirs
-pub tells_more : (ring : Ring) (nodes : List LowerNode) (items : List ShowItem) (item : ShowItem)
+pub tells_more : (ring : List SignedKey) (nodes : List LowerNode) (items : List ShowItem) (item : ShowItem)
     → TellsItems ring nodes items → TellsNode ring (slice_get nodes item.node) item.what → TellsItems ring nodes (items ++ item ∷ [])
 tells_more ring nodes items item told one = all_more (λ (i : ShowItem). TellsNode ring (slice_get nodes i.node) i.what) items item told one
 

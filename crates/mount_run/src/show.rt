@@ -1,15 +1,15 @@
-ghost use Rattle.std.specs.Prelude.{◌≡◌, ◌≤◌, ◌+◌, length, slice_get, Some, map, IfOk};
+ghost use Rattle.std.specs.Prelude.{◌≡◌, ◌≤◌, ◌+◌, ◌∷◌, [], length, slice_get, Some, map, IfOk};
 ghost use Rattle.lower_model.specs.LowerTree.{IsLowerTree};
 ghost use Rattle.tree_model.specs.Listing.{numbered};
 ghost use Rattle.job_model.specs.Job.{IsJob};
-ghost use Rattle.content_model.specs.Content.{Ring as RingValue};
 ghost use Rattle.show_model.specs.Show.{Shows, TellsItems, TellsNode, told_of, place_of, ring_of};
 
-use crate::ring::JobRing;
+use crate::ring::passphrase_ring;
 use content_model::Content;
 use extent_file::decode_body;
 use job_text::Job;
 use lower_model::{Items, Kind, LowerNode};
+use packet_set::OneKeyRing;
 use plain_names::listed_paths;
 use report_text::write_show;
 use show_model::{ShowItem, ShowWhat};
@@ -27,8 +27,8 @@ fn told(content: Content) -> ShowWhat
 }
 
 // What stands at a node.
-fn what(alloc: Global, node: &LowerNode, ring: &JobRing) -> Result<ShowWhat, AllocError>
-    ensures { IfOk result (λ what. TellsNode (record { signature = ring.now.signature; kek = ring.now.kek }) (Some node.now) what) }
+fn what(alloc: Global, node: &LowerNode, ring: &OneKeyRing) -> Result<ShowWhat, AllocError>
+    ensures { IfOk result (λ what. TellsNode (ring.now ∷ []) (Some node.now) what) }
 {
     if node.kind == Kind::Dir {
         return Ok(ShowWhat::Dir);
@@ -46,12 +46,12 @@ fn items(
     alloc: Global,
     nodes: &[LowerNode],
     paths: Vec<Path>,
-    ring: &JobRing,
+    ring: &OneKeyRing,
 ) -> Result<Vec<ShowItem>, AllocError>
     requires count { length paths.items + 1 ≡ length nodes.now }
     requires few { length nodes.now ≤ 4096 }
     ensures places { IfOk result (λ items. map place_of items.items ≡ numbered 1 paths.items) }
-    ensures told { IfOk result (λ items. TellsItems (record { signature = ring.now.signature; kek = ring.now.kek }) nodes.now items.items) }
+    ensures told { IfOk result (λ items. TellsItems (ring.now ∷ []) nodes.now items.items) }
 {
     let mut items = Vec::with_capacity(alloc, paths.len())?;
     for (k, path) in paths.into_iter().enumerate() {
@@ -71,7 +71,7 @@ pub fn show(alloc: Global, job: &Job) -> Result<Vec<u8>, AllocError>
     ensures { IfOk result (λ output. Shows job.now output.items) }
 {
     let paths = listed_paths(alloc, &job.image)?;
-    let ring = JobRing::new(&job.salt, job.passphrase.as_slice());
+    let ring = passphrase_ring(&job.salt, job.passphrase.as_slice());
     let items = items(alloc, job.image.nodes(), paths, &ring);
     ring.end();
     write_show(alloc, &items?)
