@@ -1,1 +1,3 @@
 pub mod Binds
+pub mod MoreMemory
+pub mod Values

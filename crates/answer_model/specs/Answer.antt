@@ -1,5 +1,5 @@
 -- What a call answers, against what a definition gives.
-use Rattle.std.specs.Prelude.{◌≡◌, Option, Some, None, Result, Ok, Err}
+use Rattle.std.specs.Prelude.{◌≡◌, Option, Some, None, Result, Ok, Err, IsOkAnd}
 
 -- Tests one behind another: the first fault is the answer.
 infixl 10 ◌>>=◌
@@ -16,3 +16,8 @@ FailsAs None Taken given = Taken
 abbrev pub GivesAs : {X Y E F : Type 0} → (X → Y) → (E → Option F) → Type 0 → Result X E → Result Y F → Type 0
 GivesAs view fault_of Taken (Ok x) given = given ≡ Ok (view x)
 GivesAs view fault_of Taken (Err e) given = FailsAs (fault_of e) Taken given
+
+-- The same where the value stands in a relation to the definition's.
+abbrev pub GivesBy : {X Y E F : Type 0} → (X → Y → Type 0) → (E → Option F) → Type 0 → Result X E → Result Y F → Type 0
+GivesBy Related fault_of Taken (Ok x) given = IsOkAnd given (Related x)
+GivesBy Related fault_of Taken (Err e) given = FailsAs (fault_of e) Taken given

@@ -3,11 +3,11 @@ use Rattle.std.proofs.Common.{ℕ, zero, suc, List, arith}
 use Rattle.std.specs.Prelude.{slice_index}
 use Rattle.std.specs.Int.{w32, to_le_bytes}
 use Rattle.octet_model.specs.Octets.{AreOctets}
-use Rattle.octet_model.proofs.Octets.{AreOctets-append}
 use Rattle.md5.specs.Md5.{digest_bytes, md5}
 use Rattle.md5.proofs.StandardFacts.{length-md5}
 use Rattle.cipher_model.specs.Aes.{IsBlock}
 use Rattle.key_model.specs.ExtentIv.{extent_iv}
+use Rattle.octet_model.proofs.Octets.{AreOctets-append}
 
 word_octets : (n : ℕ) → AreOctets (to_le_bytes w32 n)
 word_octets n = (omega arith, (omega arith, (omega arith, (omega arith, tt))))

@@ -1,16 +1,18 @@
 -- A lower file decodes to at most one content, since a cipher text has at most one plain text.
-use Rattle.std.proofs.Common.{◌≡◌, ℕ, ◌+◌, ◌-◌, ◌*◌, ◌/◌, ◌%◌, ◌<◌, List, [], ◌∷◌, length, take, drop, get_or, Option, sym, ap, subst, ◌∙◌, arith}
+use Rattle.std.proofs.Common.{◌≡◌, ℕ, ◌+◌, ◌-◌, ◌*◌, ◌/◌, ◌%◌, ◌<◌, List, [], ◌∷◌, length, take, drop, get_or, Option, Some, None, Result, Ok, Err, sym, ap, subst, ◌∙◌, arith}
 use Rattle.std.proofs.lemmas.List.{ext_get_or}
 use Rattle.std.proofs.lemmas.List.Edits.{get_or-between}
 use Rattle.octet_model.specs.Octets.{AreOctets}
 use Rattle.octet_model.proofs.Octets.{AreOctets-take, AreOctets-drop}
-use Rattle.cipher_model.proofs.PlainTexts.{cbc-only, ecb-only}
+use Rattle.cipher_model.proofs.PlainTexts.{cbc-only}
 use Rattle.key_model.specs.ExtentIv.{root_iv, extent_iv}
-use Rattle.packet_model.specs.FileKey.{IsFileKey}
-use Rattle.packet_model.specs.Metadata.{FileHeader, Metadata, metadata, data_start, extent_count}
+use Rattle.key_model.specs.SignedKey.{SignedKey, signatures}
+use Rattle.packet_model.specs.declared.cause.BadCause.{BadCause}
+use Rattle.packet_model.specs.Metadata.{FileMetadata, metadata, data_start, extent_count}
+use Rattle.packet_model.proofs.FileKeys.{one_unwrapped}
 use Rattle.content_model.specs.declared.content.Content.{Content}
 use Rattle.content_model.specs.declared.content.Content.TheVariants.{Empty, Good, Bad}
-use Rattle.content_model.specs.Content.{Ring, extent_at, ArePlain, DecodesTo, IsGoodContent, IsContentBy, IsContent}
+use Rattle.content_model.specs.Content.{extent_at, ArePlain, DecodesTo, IsGoodContent, IsContentBy, IsContent}
 use Rattle.content_model.proofs.IvBlocks.{IsBlock-extent_iv}
 
 -- texts of whole extents are one when their extents are
@@ -34,28 +36,26 @@ one_plain key start count body p q fits a b =
     cbc-only key (extent_iv (root_iv key) n) (extent_at start body n) (extent_at 0 p n) (extent_at 0 q n) (IsBlock-extent_iv (root_iv key) n)
     (each body fits start n) (each p a.octets 0 n) (each q b.octets 0 n) (a.extents n lt) (b.extents n lt))
 
--- a wrapped key has at most one file key
-pub one_key : (kek wrapped k l : List ℕ) → AreOctets k → AreOctets l → IsFileKey kek wrapped k → IsFileKey kek wrapped l → k ≡ l
-one_key kek wrapped k l hk hl a b = ecb-only (take (length wrapped) kek) wrapped k l hk hl a b
+pub one_decoding : (ring : List SignedKey) (found : FileMetadata) (body xs ys : List ℕ) → AreOctets body → DecodesTo ring found body xs → DecodesTo ring found body ys → xs ≡ ys
+one_decoding ring found body xs ys fits a b =
+    let start : ℕ = data_start found.meta_place found.header in
+    let count : ℕ = extent_count found.header.size in
+    let keys : b.key ≡ a.key = one_unwrapped ring found.header.key b.key a.key b.key_octets a.key_octets b.unwrapped a.unwrapped in
+    let other : ArePlain a.key start count body b.plain = subst (λ (k : List ℕ). ArePlain k start count body b.plain) keys b.extents in
+    let plain : a.plain ≡ b.plain = one_plain a.key start count body a.plain b.plain fits a.extents other in
+    a.first ∙ ap (λ (p : List ℕ). take found.header.size p) plain ∙ sym b.first
 
-pub one_decoding : (kek : List ℕ) (start : ℕ) (header : FileHeader) (body xs ys : List ℕ) → AreOctets body → DecodesTo kek start header body xs → DecodesTo kek start header body ys → xs ≡ ys
-one_decoding kek start header body xs ys fits a b =
-    let keys : b.key ≡ a.key = one_key kek header.key.wrapped b.key a.key b.key_octets a.key_octets b.unwrapped a.unwrapped in
-    let other : ArePlain a.key start (extent_count header.size) body b.plain = subst (λ (k : List ℕ). ArePlain k start (extent_count header.size) body b.plain) keys b.extents in
-    let plain : a.plain ≡ b.plain = one_plain a.key start (extent_count header.size) body a.plain b.plain fits a.extents other in
-    a.first ∙ ap (λ (p : List ℕ). take header.size p) plain ∙ sym b.first
+one_good : (ring : List SignedKey) (found : FileMetadata) (body : List ℕ) (c d : Content) → AreOctets body → IsGoodContent ring found body c → IsGoodContent ring found body d → c ≡ d
+one_good ring found body Empty d fits a b = absurd a
+one_good ring found body (Bad cause) d fits a b = absurd a
+one_good ring found body (Good xs) Empty fits a b = absurd b
+one_good ring found body (Good xs) (Bad cause) fits a b = absurd b
+one_good ring found body (Good xs) (Good ys) fits a b = ap (λ (z : List ℕ). Good z) (one_decoding ring found body xs ys fits a b)
 
-one_good : (kek : List ℕ) (start : ℕ) (header : FileHeader) (body : List ℕ) (c d : Content) → AreOctets body → IsGoodContent kek start header body c → IsGoodContent kek start header body d → c ≡ d
-one_good kek start header body Empty d fits a b = absurd a
-one_good kek start header body (Bad cause) d fits a b = absurd a
-one_good kek start header body (Good xs) Empty fits a b = absurd b
-one_good kek start header body (Good xs) (Bad cause) fits a b = absurd b
-one_good kek start header body (Good xs) (Good ys) fits a b = ap (λ (z : List ℕ). Good z) (one_decoding kek start header body xs ys fits a b)
+one_content_by : (ring : List SignedKey) (read : Result (Option FileMetadata) BadCause) (body : List ℕ) (c d : Content) → AreOctets body → IsContentBy ring read body c → IsContentBy ring read body d → c ≡ d
+one_content_by ring (Ok None) body c d fits a b = a ∙ sym b
+one_content_by ring (Err cause) body c d fits a b = a ∙ sym b
+one_content_by ring (Ok (Some found)) body c d fits a b = one_good ring found body c d fits a b
 
-one_content_by : (kek : List ℕ) (meta : Metadata) (body : List ℕ) (c d : Content) → AreOctets body → IsContentBy kek meta body c → IsContentBy kek meta body d → c ≡ d
-one_content_by kek Metadata.Empty body c d fits a b = a ∙ sym b
-one_content_by kek (Metadata.Bad cause) body c d fits a b = a ∙ sym b
-one_content_by kek (Metadata.Good place header) body c d fits a b = one_good kek (data_start place header) header body c d fits a b
-
-pub one_content : (ring : Ring) (body : List ℕ) (attribute : Option (List ℕ)) (c d : Content) → AreOctets body → IsContent ring body attribute c → IsContent ring body attribute d → c ≡ d
-one_content ring body attribute c d fits a b = one_content_by ring.kek (metadata (ring.signature ∷ []) body attribute) body c d fits a b
+pub one_content : (ring : List SignedKey) (body : List ℕ) (attribute : Option (List ℕ)) (c d : Content) → AreOctets body → IsContent ring body attribute c → IsContent ring body attribute d → c ≡ d
+one_content ring body attribute c d fits a b = one_content_by ring (metadata (signatures ring) body attribute) body c d fits a b

@@ -1,47 +1,45 @@
 -- What a lower file decodes to, by its body and its attribute, as Linux's eCryptfs encrypts the extents of a file.
-use Rattle.std.specs.Prelude.{ℕ, ◌≡◌, ◌<◌, ◌+◌, ◌*◌, List, [], ◌∷◌, length, take, slice_range, Option}
+use Rattle.std.specs.Prelude.{ℕ, ◌≡◌, ◌<◌, ◌+◌, ◌*◌, List, length, take, slice_range, Option, Some, None, Result, Ok, Err}
 use Rattle.octet_model.specs.Octets.{AreOctets}
 use Rattle.cipher_model.specs.Cbc.{IsCbc}
 use Rattle.key_model.specs.ExtentIv.{root_iv, extent_iv}
-use Rattle.packet_model.specs.FileKey.{IsFileKey}
-use Rattle.packet_model.specs.Metadata.{FileHeader, Metadata, metadata, data_start, extent_count}
+use Rattle.key_model.specs.SignedKey.{SignedKey, signatures}
+use Rattle.packet_model.specs.declared.cause.BadCause.{BadCause}
+use Rattle.packet_model.specs.declared.layout.TheConstants.{EXTENT_SIZE}
+use Rattle.packet_model.specs.FileKey.{Unwraps}
+use Rattle.packet_model.specs.Metadata.{FileMetadata, metadata, data_start, extent_count}
 use Rattle.content_model.specs.declared.content.Content.{Content}
 use Rattle.content_model.specs.declared.content.Content.TheVariants.{Empty, Good, Bad}
 
--- A mount's key-encryption key, and its signature.
-pub record Ring : Type 0 where
-  pub signature : List ℕ
-  pub kek : List ℕ
-
 -- the extent with this number, counted from 0 at a start
 abbrev pub extent_at : ℕ → List ℕ → ℕ → List ℕ
-extent_at start octets n = slice_range octets (start + 4096 * n) (start + 4096 * n + 4096)
+extent_at start octets n = slice_range octets (start + EXTENT_SIZE * n) (start + EXTENT_SIZE * n + EXTENT_SIZE)
 
 -- The plain text of the extents of a body from the data start on: extent n is encrypted by CBC under the file key, with the IV of n.
 pub record ArePlain (key : List ℕ) (start count : ℕ) (body plain : List ℕ) : Type 0 where
   pub octets : AreOctets plain
-  pub whole : length plain ≡ 4096 * count
+  pub whole : length plain ≡ EXTENT_SIZE * count
   pub extents : (n : ℕ) → n < count → IsCbc key (extent_iv (root_iv key) n) (extent_at 0 plain n) (extent_at start body n)
 
--- The octets of a file: the first of its plain text, as many as its size, under the key that its header wraps.
-pub record DecodesTo (kek : List ℕ) (start : ℕ) (header : FileHeader) (body octets : List ℕ) : Type 0 where
+-- The octets of a file: the first of its plain text, as many as its size, under the file key that the ring's key wraps.
+pub record DecodesTo (ring : List SignedKey) (found : FileMetadata) (body octets : List ℕ) : Type 0 where
   pub key : List ℕ
   pub plain : List ℕ
   pub key_octets : AreOctets key
-  pub unwrapped : IsFileKey kek header.key.wrapped key
-  pub extents : ArePlain key start (extent_count header.size) body plain
-  pub first : octets ≡ take header.size plain
+  pub unwrapped : Unwraps ring found.header.key key
+  pub extents : ArePlain key (data_start found.meta_place found.header) (extent_count found.header.size) body plain
+  pub first : octets ≡ take found.header.size plain
 
-abbrev pub IsGoodContent : List ℕ → ℕ → FileHeader → List ℕ → Content → Type 0
-IsGoodContent kek start header body Empty = ⊥
-IsGoodContent kek start header body (Good octets) = DecodesTo kek start header body octets
-IsGoodContent kek start header body (Bad cause) = ⊥
+abbrev pub IsGoodContent : List SignedKey → FileMetadata → List ℕ → Content → Type 0
+IsGoodContent ring found body Empty = ⊥
+IsGoodContent ring found body (Good octets) = DecodesTo ring found body octets
+IsGoodContent ring found body (Bad cause) = ⊥
 
-abbrev pub IsContentBy : List ℕ → Metadata → List ℕ → Content → Type 0
-IsContentBy kek Metadata.Empty body content = content ≡ Empty
-IsContentBy kek (Metadata.Bad cause) body content = content ≡ Bad cause
-IsContentBy kek (Metadata.Good place header) body content = IsGoodContent kek (data_start place header) header body content
+abbrev pub IsContentBy : List SignedKey → Result (Option FileMetadata) BadCause → List ℕ → Content → Type 0
+IsContentBy ring (Ok None) body content = content ≡ Empty
+IsContentBy ring (Ok (Some found)) body content = IsGoodContent ring found body content
+IsContentBy ring (Err cause) body content = content ≡ Bad cause
 
--- the content of a file with this body and attribute
-abbrev pub IsContent : Ring → List ℕ → Option (List ℕ) → Content → Type 0
-IsContent ring body attribute content = IsContentBy ring.kek (metadata (ring.signature ∷ []) body attribute) body content
+-- the content of a file with this body and attribute, under the ring of a mount
+abbrev pub IsContent : List SignedKey → List ℕ → Option (List ℕ) → Content → Type 0
+IsContent ring body attribute content = IsContentBy ring (metadata (signatures ring) body attribute) body content

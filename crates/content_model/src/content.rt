@@ -2,7 +2,7 @@ use lower_model::Items;
 use packet_model::BadCause;
 
 /// What a lower file decodes to.
-#[derive(Drop)]
+#[derive(Debug, Drop)]
 pub enum Content {
     /// It has neither a body nor the attribute.
     Empty,

@@ -8,7 +8,7 @@ use borrow.Rule.Slice.PartMut.{put_mid}
 use Rattle.cipher_model.specs.Cbc.{IsCbc}
 use Rattle.key_model.specs.ExtentIv.{root_iv, extent_iv}
 use Rattle.content_model.specs.Content.{extent_at, ArePlain}
-use Rattle.extent_file.specs.Steps.{IsDecryptedTo}
+use Rattle.extent_file.specs.DecryptedExtents.{IsDecryptedTo}
 
 -- an extent that is counted from the front
 extent_is : (octets : List ℕ) (n : ℕ) → extent_at 0 octets n ≡ slice_range octets (4096 * n) (4096 * n + 4096)

@@ -1,118 +1,62 @@
-mod linux;
-
-use crate::{Content, Ring, decode_body};
-use linux::{
-    ATTRIBUTE, ATTRIBUTE_KEY, ATTRIBUTE_SIGNATURE, BODY, DIGEST, HEADER_KEY, HEADER_SIGNATURE,
-    ONE_OCTET, ONE_OCTET_EXTENT,
-};
+use crate::{Content, decode_body};
 use packet_model::BadCause;
+use packet_set::OneKeyRing;
 use secret_key::Kek;
-use sha2::{Digest, Sha256};
 use std::alloc::AllocError;
 use std::test::Fail;
 
-struct OwnRing {
-    signature: [u8; 8],
-    kek: Kek,
-}
+// Metadata for 4,097 octets, as the usual tool writes it. The wrapped key is the cipher text of FIPS 197, C.1.
+const METADATA: [u8; 81] = [
+    0x00, 0x00, 0x00, 0x00, 0x00, 0x00, 0x10, 0x01, 0x11, 0x22, 0x33, 0x44, 0x2d, 0xa3, 0x84, 0xb1,
+    0x03, 0x00, 0x00, 0x0a, 0x00, 0x00, 0x10, 0x00, 0x00, 0x02, 0x8c, 0x1d, 0x04, 0x07, 0x03, 0x01,
+    0x00, 0x11, 0x22, 0x33, 0x44, 0x55, 0x66, 0x77, 0x60, 0x69, 0xc4, 0xe0, 0xd8, 0x6a, 0x7b, 0x04,
+    0x30, 0xd8, 0xcd, 0xb7, 0x80, 0x70, 0xb4, 0xc5, 0x5a, 0xed, 0x16, 0x62, 0x08, 0x5f, 0x43, 0x4f,
+    0x4e, 0x53, 0x4f, 0x4c, 0x45, 0x00, 0x00, 0x00, 0x00, 0x01, 0x02, 0x03, 0x04, 0x05, 0x06, 0x07,
+    0x08,
+];
 
-impl Ring for OwnRing {
-    ghost ring_signature = { λ r. r.signature };
+// What OpenSSL decrypts the first block of an extent of zeros to, under the key of FIPS 197, C.1, with the IV of extent 0 by Python's
+// hashlib; of extent 1 the first octet is 0xf4.
+const FIRST_BLOCK: [u8; 16] = [
+    0xaa, 0x09, 0x81, 0x51, 0x29, 0xc2, 0xc9, 0xd1, 0x5e, 0x03, 0xa3, 0xf9, 0xfd, 0xfc, 0x7c, 0x3f,
+];
 
-    ghost ring_kek = { λ r. r.kek };
-
-    fn signature(&self) -> [u8; 8] {
-        self.signature
-    }
-
-    fn kek(&self) -> &Kek {
-        &self.kek
-    }
-}
-
-fn decoded(
-    rt: &HostRuntime,
-    body: &[u8],
-    attribute: Option<&[u8]>,
-    key: &[u8; 64],
-    signature: [u8; 8],
-) -> Result<Content, AllocError> {
-    let ring = OwnRing {
-        signature,
-        kek: Kek::new(*key),
-    };
+fn decoded(rt: &HostRuntime, body: &[u8], attribute: Option<&[u8]>) -> Result<Content, AllocError> {
+    let mut key = [0; 64];
+    key[..16].copy_from_slice(&[0, 1, 2, 3, 4, 5, 6, 7, 8, 9, 10, 11, 12, 13, 14, 15]);
+    let ring = OneKeyRing::new(Kek::new(key), [1, 2, 3, 4, 5, 6, 7, 8]);
     let content = decode_body(rt.alloc(), body, attribute, &ring);
-    let OwnRing { signature: _, kek } = ring;
-    kek.spend();
+    ring.end();
     content
 }
 
-// The body of the file of one octet, cut or with zeros behind it.
-fn one_octet(rt: &HostRuntime, len: usize) -> Result<Vec<u8>, AllocError> {
-    let mut body = Vec::from_slice(rt.alloc(), &ONE_OCTET)?;
-    body.resize(8192, 0)?;
-    body.extend_from_slice(&ONE_OCTET_EXTENT)?;
-    body.resize(len, 0)?;
-    Ok(body)
-}
-
 #[test]
-fn a_file_with_a_header(rt: HostRuntime) -> Result<(), Fail> {
-    for len in [12_288, 16_384] {
-        let body = one_octet(&rt, len)?;
-        let Content::Good(octets) = decoded(&rt, &body, None, &HEADER_KEY, HEADER_SIGNATURE)? else {
-            panic!(rt; "a good file of {len} octets")
+fn a_file_of_two_extents(rt: HostRuntime) -> Result<(), Fail> {
+    let mut body = Vec::from_slice(rt.alloc(), &METADATA)?;
+    body.resize(16_384, 0)?;
+    let extents = [0; 8192];
+    for content in [
+        decoded(&rt, &body, None),
+        decoded(&rt, &extents, Some(&METADATA)),
+    ] {
+        let Content::Good(octets) = content? else {
+            panic!(rt; "a good file")
         };
-        assert_eq!(rt; octets.as_slice(), [0x12].as_slice());
+        assert_eq!(rt; octets.len(), 4097);
+        assert_eq!(rt; &octets.as_slice()[..16], FIRST_BLOCK.as_slice());
+        assert_eq!(rt; octets.as_slice()[4096], 0xf4);
     }
     Ok(())
 }
 
 #[test]
-fn a_body_that_is_too_short(rt: HostRuntime) -> Result<(), Fail> {
-    let body = one_octet(&rt, 12_287)?;
-    let Content::Bad(cause) = decoded(&rt, &body, None, &HEADER_KEY, HEADER_SIGNATURE)? else {
-        panic!(rt; "a cut file")
-    };
-    assert_eq!(rt; cause, BadCause::ShortData(12_287, 12_288));
-    Ok(())
-}
-
-#[test]
-fn a_file_with_the_attribute(rt: HostRuntime) -> Result<(), Fail> {
-    let Content::Good(octets) = decoded(
-        &rt,
-        &BODY,
-        Some(&ATTRIBUTE),
-        &ATTRIBUTE_KEY,
-        ATTRIBUTE_SIGNATURE,
-    )?
-    else {
-        panic!(rt; "a good file")
-    };
-    assert_eq!(rt; octets.len(), 5000);
-    assert_eq!(rt; Sha256::digest(octets.as_slice()), DIGEST);
-    Ok(())
-}
-
-#[test]
-fn the_attribute_alone_decides(rt: HostRuntime) -> Result<(), Fail> {
-    let body = one_octet(&rt, 12_288)?;
-    let Content::Bad(cause) = decoded(&rt, &body, Some(&ATTRIBUTE), &HEADER_KEY, HEADER_SIGNATURE)?
-    else {
-        panic!(rt; "an attribute of another mount")
-    };
-    assert_eq!(rt;
-        cause,
-        BadCause::WrongKey(ATTRIBUTE_SIGNATURE, HEADER_SIGNATURE)
-    );
-    Ok(())
-}
-
-#[test]
-fn an_empty_file(rt: HostRuntime) -> Result<(), Fail> {
-    let Content::Empty = decoded(&rt, &[], None, &HEADER_KEY, HEADER_SIGNATURE)? else {
+fn files_without_octets(rt: HostRuntime) -> Result<(), Fail> {
+    let Content::Empty = decoded(&rt, &[], None)? else {
         panic!(rt; "an empty file")
     };
+    let Content::Bad(cause) = decoded(&rt, &[0; 8191], Some(&METADATA))? else {
+        panic!(rt; "a cut file")
+    };
+    assert_eq!(rt; cause, BadCause::ShortData(8191, 8192));
     Ok(())
 }

@@ -11,18 +11,19 @@ use Rattle.lower_model.specs.declared.meta_place.MetaPlace.{MetaPlace}
 use Rattle.lower_model.specs.declared.meta_place.MetaPlace.TheVariants.{Header, Attribute}
 use Rattle.packet_model.specs.declared.cause.BadCause.{BadCause}
 use Rattle.packet_model.specs.declared.cause.BadCause.TheVariants.{TooLarge, Short}
-use Rattle.packet_model.specs.declared.cause.TheConstants.{MAX_SIZE}
+use Rattle.packet_model.specs.declared.layout.TheConstants.{ENCRYPTED_FLAG, HMAC_FLAG, MARKER, MAX_SIZE, SET_OFFSET}
 use Rattle.packet_model.specs.declared.packet.Tag3.{Tag3}
 use Rattle.packet_model.specs.declared.packet.Tag11.{Tag11}
 use Rattle.packet_model.specs.declared.packet.Pair.{Pair}
 use Rattle.packet_model.specs.declared.tag.TheConstants.{TAG3, TAG11}
 use Rattle.packet_model.specs.Packet.{packet, tag3_body, tag3, tag11_body, tag11, console, IsTag3, IsTag11}
-use Rattle.packet_model.specs.PacketSet.{◌>>=◌, WrappedKey, begins_pair, pairs_from, set_place, is_among, key_among, key_at, IsSet}
-use Rattle.packet_model.specs.Metadata.{FileHeader, NewHeader, size_in, mark_in, second_mark_in, marker_sum, version_in, flags_in, has_flag, hmac_flag, encrypted_flag, meta_size_in, packets_in, is_meta_size, header_fields, sized, fields_fault, unless, header_at, fixed_part, new_pair, new_metadata}
+use Rattle.answer_model.specs.Answer.{◌>>=◌}
+use Rattle.packet_model.specs.PacketSet.{WrappedKey, begins_pair, pairs_from, is_among, key_among, key_at, IsSet}
+use Rattle.packet_model.specs.Metadata.{FileHeader, NewHeader, size_in, mark_in, second_mark_in, version_in, flags_in, has_flag, meta_size_in, packets_in, is_meta_size, header_fields, header_with, fields_fault, unless, header_at, fixed_part, new_pair, new_metadata}
 use Rattle.packet_model.proofs.Found.{chosen}
 use Rattle.packet_model.proofs.Sets.{ok, pairs_again}
 use Rattle.file_header.specs.NewMetadata.{IsNewHeader, header_of}
-use Rattle.file_header.proofs.Header.{key_found}
+use Rattle.file_header.proofs.KeyBehindFields.{key_found}
 
 -- ---- the fields before the packets
 
@@ -31,7 +32,7 @@ record HasFields (octets : List ℕ) (new : NewHeader) : Type 0 where
   long : 26 ≤ length octets
   size : size_in octets ≡ new.size
   mark : mark_in octets ≡ new.mark
-  second_mark : second_mark_in octets ≡ bit_xor new.mark marker_sum
+  second_mark : second_mark_in octets ≡ bit_xor new.mark MARKER
   version : version_in octets ≡ 3
   flags : flags_in octets ≡ new.flags
   meta_size : meta_size_in octets ≡ 8192
@@ -49,33 +50,33 @@ fields_of new rest h =
       long = omega arith;
       size = from_be_bytes-to_be_bytes_8 new.size (omega (arith, h.size));
       mark = from_be_bytes-to_be_bytes_4 new.mark h.mark;
-      second_mark = from_be_bytes-to_be_bytes_4 (bit_xor new.mark marker_sum) (xor_lt 32 new.mark marker_sum h.mark (omega arith));
+      second_mark = from_be_bytes-to_be_bytes_4 (bit_xor new.mark MARKER) (xor_lt 32 new.mark MARKER h.mark (omega arith));
       version = version_of new.flags h.flags;
       flags = ap (λ (n : ℕ). n % 2 ^ 24) (from_be_bytes-to_be_bytes_4 (3 * 2 ^ 24 + new.flags) word) ∙ low_bits new.flags h.flags;
       meta_size = refl;
     }
 
-two_extents : (place : MetaPlace) → is_meta_size place 8192 ≡ true
+two_extents : (meta_place : MetaPlace) → is_meta_size meta_place 8192 ≡ true
 two_extents Header = refl
 two_extents Attribute = refl
 
-back : (mark : ℕ) → bit_xor mark (bit_xor mark marker_sum) ≡ marker_sum
-back mark = sym (xor_assoc mark mark marker_sum) ∙ ap (λ (n : ℕ). bit_xor n marker_sum) (xor_self mark) ∙ xor_zero_l marker_sum
+back : (mark : ℕ) → bit_xor mark (bit_xor mark MARKER) ≡ MARKER
+back mark = sym (xor_assoc mark mark MARKER) ∙ ap (λ (n : ℕ). bit_xor n MARKER) (xor_self mark) ∙ xor_zero_l MARKER
 
 not_true : (b : Bool) → not b ≡ true → b ≡ false
 not_true true e = absurd cc
 not_true false e = refl
 
-no_fault : (place : MetaPlace) (octets : List ℕ) (new : NewHeader) → IsNewHeader new → HasFields octets new → fields_fault place octets ≡ None
+no_fault : (meta_place : MetaPlace) (octets : List ℕ) (new : NewHeader) → IsNewHeader new → HasFields octets new → fields_fault meta_place octets ≡ None
 unfolding fields_fault
-no_fault place octets new h r =
-    let marker : bit_xor (mark_in octets) (second_mark_in octets) ≡ marker_sum = rw (r.mark, r.second_mark) (back new.mark) in
-    let no_hmac : not (has_flag hmac_flag (flags_in octets)) ≡ true = rw r.flags h.no_hmac in
-    let encrypted : has_flag encrypted_flag (flags_in octets) ≡ true = rw r.flags h.encrypted in
-    let extents : is_meta_size place (meta_size_in octets) ≡ true = rw r.meta_size (two_extents place) in
-    rw (le-ltb (length octets) 26 r.long, eq-eqb (bit_xor (mark_in octets) (second_mark_in octets)) marker_sum marker, eq-eqb (version_in octets) 3 r.version, not_true (has_flag hmac_flag (flags_in octets)) no_hmac, encrypted, extents) refl
+no_fault meta_place octets new h r =
+    let marker : bit_xor (mark_in octets) (second_mark_in octets) ≡ MARKER = rw (r.mark, r.second_mark) (back new.mark) in
+    let no_hmac : not (has_flag HMAC_FLAG (flags_in octets)) ≡ true = rw r.flags h.no_hmac in
+    let encrypted : has_flag ENCRYPTED_FLAG (flags_in octets) ≡ true = rw r.flags h.encrypted in
+    let extents : is_meta_size meta_place (meta_size_in octets) ≡ true = rw r.meta_size (two_extents meta_place) in
+    rw (le-ltb (length octets) 26 r.long, eq-eqb (bit_xor (mark_in octets) (second_mark_in octets)) MARKER marker, eq-eqb (version_in octets) 3 r.version, not_true (has_flag HMAC_FLAG (flags_in octets)) no_hmac, encrypted, extents) refl
 
-size_read : (octets : List ℕ) (new : NewHeader) → IsNewHeader new → HasFields octets new → sized octets new.key ≡ ok (header_of new)
+size_read : (octets : List ℕ) (new : NewHeader) → IsNewHeader new → HasFields octets new → header_with octets new.key ≡ ok (header_of new)
 size_read octets new h r =
     let most : ltb MAX_SIZE (size_in octets) ≡ false = le-ltb MAX_SIZE (size_in octets) (omega (arith, r.size, h.size)) in
     let fields : header_fields octets new.key ≡ header_of new = λ i. record { size = r.size i; mark = r.mark i; flags = r.flags i; meta_size = r.meta_size i; key = new.key } in
@@ -95,8 +96,8 @@ pair_of new = record { tag3 = key_packet new; tag11 = signature_packet new }
 wrapped_long : (new : NewHeader) → IsNewHeader new → length new.key.wrapped ≡ 16
 wrapped_long new h = let parts = and_parts _ _ h.usable in eqb-true (length new.key.wrapped) 16 parts.1
 
-packet_long : (tag : ℕ) (body : List ℕ) → length body < 192 → length (packet tag body) ≡ 2 + length body
-packet_long tag body h = rw (lt-ltb (length body) 192 h) (omega arith)
+packet_long : (tag : ℕ) (content : List ℕ) → length content < 192 → length (packet tag content) ≡ 2 + length content
+packet_long tag content h = rw (lt-ltb (length content) 192 h) (omega arith)
 
 pair_long : (new : NewHeader) → IsNewHeader new → length (new_pair new) ≡ 55
 pair_long new h =
@@ -123,7 +124,7 @@ key_read ours new behind h own ends =
     let key : IsTag3 (key_packet new) = record { salt = h.salt; wrapped = omega (arith, wrapped_long new h) } in
     let signature : IsTag11 console (signature_packet new) = record { name = omega arith; date = refl; signature = h.signature } in
     let set : IsSet (pair_of new ∷ []) octets = (console, behind, key, signature, joined, ends) in
-    let pairs : pairs_from set_place octets ≡ ok (pair_of new ∷ []) = pairs_again (pair_of new ∷ []) (length octets) set_place octets set (omega arith) in
+    let pairs : pairs_from SET_OFFSET octets ≡ ok (pair_of new ∷ []) = pairs_again (pair_of new ∷ []) (length octets) SET_OFFSET octets set (omega arith) in
     ap (λ (r : Result (List Pair) BadCause). r >>= key_among ours) pairs ∙ found ours new h own
 
 -- ---- new metadata
@@ -134,13 +135,13 @@ in_front pair tail long =
     let most : 4070 ≡ length pair + 4015 = omega (arith, long) in
     sym (ap (λ (n : ℕ). take n (pair ++ tail)) most ∙ take-append-add pair tail 4015)
 
-read_again : (place : MetaPlace) (ours : List (List ℕ)) (new : NewHeader) (tail : List ℕ) → IsNewHeader new → is_among new.key.signature ours ≡ true → begins_pair (take 4015 tail) ≡ false
-    → header_at place ours (fixed_part new ++ (new_pair new ++ tail)) ≡ ok (header_of new)
-read_again place ours new tail h own ends =
+read_again : (meta_place : MetaPlace) (ours : List (List ℕ)) (new : NewHeader) (tail : List ℕ) → IsNewHeader new → is_among new.key.signature ours ≡ true → begins_pair (take 4015 tail) ≡ false
+    → header_at meta_place ours (fixed_part new ++ (new_pair new ++ tail)) ≡ ok (header_of new)
+read_again meta_place ours new tail h own ends =
     let octets = fixed_part new ++ (new_pair new ++ tail) in
     let fields : HasFields octets new = fields_of new (new_pair new ++ tail) h in
     let key = key_read ours new (take 4015 tail) h own ends in
-    key_found place ours octets (new_pair new ++ take 4015 tail) new.key (no_fault place octets new h fields) (in_front (new_pair new) tail (pair_long new h)) key ∙ size_read octets new h fields
+    key_found meta_place ours octets (new_pair new ++ take 4015 tail) new.key (no_fault meta_place octets new h fields) (in_front (new_pair new) tail (pair_long new h)) key ∙ size_read octets new h fields
 
 zeros_end : (n m k : ℕ) (behind : List ℕ) → n ≡ suc m → begins_pair (take k (replicate n 0 ++ behind)) ≡ false
 zeros_end n m zero behind e = refl
@@ -149,10 +150,10 @@ zeros_end n m (suc k) behind e = rw e refl
 pub header_again : (new : NewHeader) (ours : List (List ℕ)) (behind : List ℕ) → IsNewHeader new → IsTrue (is_among new.key.signature ours)
     → header_at Header ours (new_metadata Header new ++ behind) ≡ ok (header_of new)
 header_again new ours behind h own =
-    let zeros : List ℕ = replicate (8166 - length (new_pair new)) 0 in
+    let zeros : List ℕ = replicate (8192 - (26 + length (new_pair new))) 0 in
     let joined : new_metadata Header new ++ behind ≡ fixed_part new ++ (new_pair new ++ (zeros ++ behind)) =
     append_assoc (fixed_part new) (new_pair new ++ zeros) behind ∙ ap (λ (r : List ℕ). fixed_part new ++ r) (append_assoc (new_pair new) zeros behind) in
-    let ends = zeros_end (8166 - length (new_pair new)) 8110 4015 behind (omega (arith, pair_long new h)) in
+    let ends = zeros_end (8192 - (26 + length (new_pair new))) 8110 4015 behind (omega (arith, pair_long new h)) in
     ap (header_at Header ours) joined ∙ read_again Header ours new (zeros ++ behind) h own ends
 
 pub attribute_again : (new : NewHeader) (ours : List (List ℕ)) → IsNewHeader new → IsTrue (is_among new.key.signature ours) → header_at Attribute ours (new_metadata Attribute new) ≡ ok (header_of new)
@@ -163,16 +164,16 @@ attribute_again new ours h own =
 pub lengths : (new : NewHeader) → IsNewHeader new → (length (new_metadata Header new) ≡ 8192) × (length (new_metadata Attribute new) ≡ 81)
 lengths new h =
     let pair = pair_long new h in
-    let zeros : List ℕ = replicate (8166 - length (new_pair new)) 0 in (
-      omega (arith, length-append (fixed_part new) (new_pair new ++ zeros), length-append (new_pair new) zeros, length-replicate {A = ℕ} (8166 - length (new_pair new)) 0, pair),
+    let zeros : List ℕ = replicate (8192 - (26 + length (new_pair new))) 0 in (
+      omega (arith, length-append (fixed_part new) (new_pair new ++ zeros), length-append (new_pair new) zeros, length-replicate {A = ℕ} (8192 - (26 + length (new_pair new))) 0, pair),
       omega (arith, length-append (fixed_part new) (new_pair new), pair),
     )
 
 -- ---- another size
 
 -- what a reading without a fault tells
-record Tells (place : MetaPlace) (ours : List (List ℕ)) (octets : List ℕ) (header : FileHeader) : Type 0 where
-  none : fields_fault place octets ≡ None
+record Tells (meta_place : MetaPlace) (ours : List (List ℕ)) (octets : List ℕ) (header : FileHeader) : Type 0 where
+  none : fields_fault meta_place octets ≡ None
   key : WrappedKey
   is_key : key_at ours (packets_in octets) ≡ ok key
   fields : header_fields octets key ≡ header
@@ -180,49 +181,49 @@ record Tells (place : MetaPlace) (ours : List (List ℕ)) (octets : List ℕ) (h
 ok_is : {A : Type 0} (x y : A) → ok x ≡ ok y → x ≡ y
 ok_is x y e = cc
 
-tells_from : (place : MetaPlace) (ours : List (List ℕ)) (octets : List ℕ) (header : FileHeader) (f : Option BadCause) (k : Result WrappedKey BadCause)
-    → fields_fault place octets ≡ f → key_at ours (packets_in octets) ≡ k → unless f (k >>= sized octets) ≡ ok header → Tells place ours octets header
-tells_from place ours octets header (Some cause) k none is e = absurd cc
-tells_from place ours octets header None (Err cause) none is e = absurd cc
-tells_from place ours octets header None (Ok key) none is e = elim (chosen (ltb MAX_SIZE (size_in octets)) (Err (TooLarge (size_in octets))) (ok (header_fields octets key)) (ok header) e) [
+tells_from : (meta_place : MetaPlace) (ours : List (List ℕ)) (octets : List ℕ) (header : FileHeader) (f : Option BadCause) (k : Result WrappedKey BadCause)
+    → fields_fault meta_place octets ≡ f → key_at ours (packets_in octets) ≡ k → unless f (k >>= header_with octets) ≡ ok header → Tells meta_place ours octets header
+tells_from meta_place ours octets header (Some cause) k none is e = absurd cc
+tells_from meta_place ours octets header None (Err cause) none is e = absurd cc
+tells_from meta_place ours octets header None (Ok key) none is e = elim (chosen (ltb MAX_SIZE (size_in octets)) (Err (TooLarge (size_in octets))) (ok (header_fields octets key)) (ok header) e) [
   | inl t ↦ absurd (let g : Err (TooLarge (size_in octets)) ≡ ok header = t.1 in cc)
   | inr f ↦ record { none = none; key = key; is_key = is; fields = ok_is (header_fields octets key) header f.1 }
 ]
 
-tells : (place : MetaPlace) (ours : List (List ℕ)) (octets : List ℕ) (header : FileHeader) → header_at place ours octets ≡ ok header → Tells place ours octets header
+tells : (meta_place : MetaPlace) (ours : List (List ℕ)) (octets : List ℕ) (header : FileHeader) → header_at meta_place ours octets ≡ ok header → Tells meta_place ours octets header
 unfolding header_at
-tells place ours octets header e = tells_from place ours octets header (fields_fault place octets) (key_at ours (packets_in octets)) refl refl e
+tells meta_place ours octets header e = tells_from meta_place ours octets header (fields_fault meta_place octets) (key_at ours (packets_in octets)) refl refl e
 
-whole_fields : (place : MetaPlace) (octets : List ℕ) → fields_fault place octets ≡ None → 26 ≤ length octets
+whole_fields : (meta_place : MetaPlace) (octets : List ℕ) → fields_fault meta_place octets ≡ None → 26 ≤ length octets
 unfolding fields_fault
-whole_fields place octets e = elim (cases_Bool (ltb (length octets) 26)) [
+whole_fields meta_place octets e = elim (cases_Bool (ltb (length octets) 26)) [
   | inl t ↦ absurd (let g : Some (Short (length octets)) ≡ None = rw t at e in cc)
   | inr f ↦ ltb-false (length octets) 26 f
 ]
 
 -- the size is no part of a fault before the packets
-same_fault : (place : MetaPlace) (size a b c d e f g h : ℕ) (rest : List ℕ) → fields_fault place (to_be_bytes w64 size ++ rest) ≡ fields_fault place (a ∷ b ∷ c ∷ d ∷ e ∷ f ∷ g ∷ h ∷ rest)
+same_fault : (meta_place : MetaPlace) (size a b c d e f g h : ℕ) (rest : List ℕ) → fields_fault meta_place (to_be_bytes w64 size ++ rest) ≡ fields_fault meta_place (a ∷ b ∷ c ∷ d ∷ e ∷ f ∷ g ∷ h ∷ rest)
 unfolding fields_fault
-same_fault place size a b c d e f g h rest = refl
+same_fault meta_place size a b c d e f g h rest = refl
 
-size_again : (size : ℕ) (octets : List ℕ) (key : WrappedKey) → size_in octets ≡ size → size ≤ MAX_SIZE → sized octets key ≡ ok (record (header_fields octets key) { size = size })
+size_again : (size : ℕ) (octets : List ℕ) (key : WrappedKey) → size_in octets ≡ size → size ≤ MAX_SIZE → header_with octets key ≡ ok (record (header_fields octets key) { size = size })
 size_again size octets key is le =
     let most : ltb MAX_SIZE (size_in octets) ≡ false = le-ltb MAX_SIZE (size_in octets) (omega (arith, is, le)) in
     rw most (ap (λ (n : ℕ). ok (record (header_fields octets key) { size = n })) is)
 
-resized : (place : MetaPlace) (ours : List (List ℕ)) (octets : List ℕ) (header : FileHeader) (size : ℕ) → size ≤ MAX_SIZE → 26 ≤ length octets → Tells place ours octets header
-    → header_at place ours (to_be_bytes w64 size ++ drop 8 octets) ≡ ok (record header { size = size })
-resized place ours (a ∷ b ∷ c ∷ d ∷ e ∷ f ∷ g ∷ h ∷ rest) header size le long t =
+resized : (meta_place : MetaPlace) (ours : List (List ℕ)) (octets : List ℕ) (header : FileHeader) (size : ℕ) → size ≤ MAX_SIZE → 26 ≤ length octets → Tells meta_place ours octets header
+    → header_at meta_place ours (to_be_bytes w64 size ++ drop 8 octets) ≡ ok (record header { size = size })
+resized meta_place ours (a ∷ b ∷ c ∷ d ∷ e ∷ f ∷ g ∷ h ∷ rest) header size le long t =
     let octets : List ℕ = a ∷ b ∷ c ∷ d ∷ e ∷ f ∷ g ∷ h ∷ rest in
     let next : List ℕ = to_be_bytes w64 size ++ rest in
-    let none : fields_fault place next ≡ None = same_fault place size a b c d e f g h rest ∙ t.none in
-    key_found place ours next (packets_in octets) t.key none refl t.is_key
+    let none : fields_fault meta_place next ≡ None = same_fault meta_place size a b c d e f g h rest ∙ t.none in
+    key_found meta_place ours next (packets_in octets) t.key none refl t.is_key
     ∙ size_again size next t.key (from_be_bytes-to_be_bytes_8 size (omega (arith, le))) le
     ∙ ap (λ (r : FileHeader). ok (record r { size = size })) t.fields
-resized place ours octets header size le long t = absurd (omega (arith, long))
+resized meta_place ours octets header size le long t = absurd (omega (arith, long))
 
-pub size_again_read : (place : MetaPlace) (ours : List (List ℕ)) (octets : List ℕ) (header : FileHeader) (size : ℕ) → size ≤ MAX_SIZE → header_at place ours octets ≡ ok header
-    → header_at place ours (to_be_bytes w64 size ++ drop 8 octets) ≡ ok (record header { size = size })
-size_again_read place ours octets header size le e =
-    let t = tells place ours octets header e in
-    resized place ours octets header size le (whole_fields place octets t.none) t
+pub size_again_read : (meta_place : MetaPlace) (ours : List (List ℕ)) (octets : List ℕ) (header : FileHeader) (size : ℕ) → size ≤ MAX_SIZE → header_at meta_place ours octets ≡ ok header
+    → header_at meta_place ours (to_be_bytes w64 size ++ drop 8 octets) ≡ ok (record header { size = size })
+size_again_read meta_place ours octets header size le e =
+    let t = tells meta_place ours octets header e in
+    resized meta_place ours octets header size le (whole_fields meta_place octets t.none) t

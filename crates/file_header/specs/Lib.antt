@@ -1,2 +1,2 @@
-pub mod Gives
+pub mod Meta
 pub mod NewMetadata

@@ -3,17 +3,17 @@
 #![tactic(auto)]
 
 mod fields;
-mod law;
+mod header;
 #[cfg(test)]
 mod linux_header;
 mod meta;
-mod reading;
+mod new_metadata;
+mod read_again;
 #[cfg(test)]
 mod tests;
-mod writing;
 
-pub use law::{new_metadata_is_read_again, new_size_is_read_again};
-pub use meta::{HeaderError, Meta, NewMeta};
-pub use packet_model::{BadCause, MAX_SIZE, MetaPlace};
-pub use reading::read_header;
-pub use writing::{write_header, write_size};
+pub use header::read_header;
+pub use meta::{Meta, NewMeta};
+pub use new_metadata::{write_header, write_size};
+pub use packet_model::{BadCause, MAX_SIZE, MetaPlace, MetadataError as HeaderError};
+pub use read_again::{new_metadata_is_read_again, new_size_is_read_again};

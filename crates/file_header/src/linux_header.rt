@@ -2,11 +2,12 @@
 // implementation of SHA-512, its file key from one of AES; with that the body shows the file's content.
 ghost use Rattle.std.specs.Prelude.{◌<◌};
 
-use crate::tests::{Opened, OwnRing, opened};
+use crate::tests::{Opened, opened};
 use crate::{BadCause, HeaderError, MetaPlace};
+use packet_set::OneKeyRing;
 use secret_key::Kek;
 
-// The octets from place 81 to 8,191 are zeros.
+// The octets from offset 81 to 8,191 are zeros.
 const WRITTEN: [u8; 81] = [
     0x00, 0x00, 0x00, 0x00, 0x00, 0x00, 0x13, 0x88, 0x6a, 0x15, 0x41, 0xb2, 0x56, 0x94, 0xf6, 0x47,
     0x03, 0x00, 0x00, 0x0a, 0x00, 0x00, 0x10, 0x00, 0x00, 0x02, 0x8c, 0x1d, 0x04, 0x07, 0x03, 0x01,
@@ -30,7 +31,7 @@ const KEY: [u8; 16] = [
     0xbe, 0x6d, 0xaf, 0xee, 0xe8, 0x78, 0x67, 0x10, 0xdd, 0xe5, 0xee, 0x88, 0xad, 0xc1, 0x20, 0xd3,
 ];
 
-// From the first place to the last, what is read where all bits of the octet there are turned.
+// From the first offset to the last, what is read where all bits of the octet there are turned.
 const OPENED: [(usize, usize, Opened); 10] = [
     (5, 5, (16_716_680, 10, 8192, KEY)),
     (6, 6, (60_552, 10, 8192, KEY)),
@@ -120,10 +121,7 @@ fn header() -> [u8; 8192] {
 }
 
 fn read(rt: &HostRuntime, octets: &[u8]) -> Result<Opened, HeaderError> {
-    let ring = OwnRing {
-        signature: SIGNATURE,
-        kek: Kek::new(KEK),
-    };
+    let ring = OneKeyRing::new(Kek::new(KEK), SIGNATURE);
     opened(rt, octets, MetaPlace::Header, ring)
 }
 
@@ -132,12 +130,12 @@ fn reads(rt: &HostRuntime, first: usize, last: usize, want: Result<Opened, Heade
     requires { last < 8192 }
 {
     let mut octets = header();
-    for place in first..=last {
-        octets[place] ^= 0xff;
+    for offset in first..=last {
+        octets[offset] ^= 0xff;
         if read(rt, &octets) != want {
             return false;
         }
-        octets[place] ^= 0xff;
+        octets[offset] ^= 0xff;
     }
     true
 }
@@ -165,11 +163,11 @@ fn has_another_key(read: &Result<Opened, HeaderError>) -> bool {
 #[test]
 fn opens_with_another_key(rt: HostRuntime) {
     let mut octets = header();
-    for place in 41..57 {
-        octets[place] ^= 0xff;
+    for offset in 41..57 {
+        octets[offset] ^= 0xff;
         let other = read(&rt, &octets);
-        assert!(rt; has_another_key(&other), "the octet {place}");
-        octets[place] ^= 0xff;
+        assert!(rt; has_another_key(&other), "the octet {offset}");
+        octets[offset] ^= 0xff;
     }
 }
 

@@ -1,10 +1,5 @@
-ghost use Rattle.std.specs.Prelude.{◌≡◌};
-ghost use Rattle.file_header.specs.Gives.{error_of};
-
-use packet_model::{BadCause, MetaPlace};
-use packet_set::SetError;
+use packet_model::MetaPlace;
 use secret_key::Fek;
-use thiserror::Error;
 
 /// The metadata of a file. Its file key has to be spent.
 pub struct Meta {
@@ -33,28 +28,6 @@ pub struct NewMeta {
     pub wrapped: [u8; 16],
     /// The signature of the key-encryption key.
     pub signature: [u8; 8],
-    /// Where the metadata is going to be.
-    pub form: MetaPlace,
-}
-
-/// Why metadata wasn't read.
-#[derive(Clone, Copy, Debug, PartialEq, Eq, Error)]
-pub enum HeaderError {
-    /// The file is bad for this cause.
-    #[error("the file is bad: {0:?}")]
-    Bad(BadCause),
-    /// Memory ran out.
-    #[error("out of memory")]
-    Memory,
-}
-
-impl From<SetError> for HeaderError {
-    ghost from_gives = { λ s e. e ≡ error_of s };
-
-    fn from(error: SetError) -> HeaderError {
-        match error {
-            SetError::Bad(cause) => HeaderError::Bad(cause),
-            SetError::Memory => HeaderError::Memory,
-        }
-    }
+    /// Where the metadata is going to stand.
+    pub meta_place: MetaPlace,
 }

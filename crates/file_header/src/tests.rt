@@ -1,30 +1,9 @@
 use crate::{
-    BadCause, HeaderError, Meta, MetaPlace, NewMeta, new_metadata_is_read_again,
-    new_size_is_read_again, read_header, write_header, write_size,
+    BadCause, HeaderError, Meta, MetaPlace, NewMeta, read_header, write_header, write_size,
 };
-use packet_set::Ring;
+use packet_set::OneKeyRing;
 use secret_key::Kek;
 use std::test::Fail;
-
-/// A ring of one key.
-pub struct OwnRing {
-    pub signature: [u8; 8],
-    pub kek: Kek,
-}
-
-impl Ring for OwnRing {
-    ghost ring_signature = { λ r. r.signature };
-
-    ghost ring_kek = { λ r. r.kek };
-
-    fn signature(&self) -> [u8; 8] {
-        self.signature
-    }
-
-    fn kek(&self) -> &Kek {
-        &self.kek
-    }
-}
 
 const OURS: [u8; 8] = [9, 8, 7, 6, 5, 4, 3, 2];
 
@@ -41,7 +20,7 @@ const NEW: NewMeta = NewMeta {
         0x5a,
     ],
     signature: SIGNATURE,
-    form: MetaPlace::Header,
+    meta_place: MetaPlace::Header,
 };
 
 // A header as the usual tool writes it.
@@ -71,12 +50,11 @@ pub type Opened = (u64, u32, u64, [u8; 16]);
 pub fn opened(
     rt: &HostRuntime,
     octets: &[u8],
-    form: MetaPlace,
-    ring: OwnRing,
+    meta_place: MetaPlace,
+    ring: OneKeyRing,
 ) -> Result<Opened, HeaderError> {
-    let read = read_header(rt.alloc(), octets, form, &ring);
-    let OwnRing { signature: _, kek } = ring;
-    kek.spend();
+    let read = read_header(rt.alloc(), octets, meta_place, &ring);
+    ring.end();
     let Meta {
         size,
         flags,
@@ -92,16 +70,17 @@ pub fn opened(
 fn outcome(
     rt: &HostRuntime,
     octets: &[u8],
-    form: MetaPlace,
+    meta_place: MetaPlace,
     signature: [u8; 8],
 ) -> Result<Opened, HeaderError> {
     let mut key = [0; 64];
     key[..16].copy_from_slice(&[0, 1, 2, 3, 4, 5, 6, 7, 8, 9, 10, 11, 12, 13, 14, 15]);
-    let ring = OwnRing {
-        signature,
-        kek: Kek::new(key),
-    };
-    opened(rt, octets, form, ring)
+    opened(
+        rt,
+        octets,
+        meta_place,
+        OneKeyRing::new(Kek::new(key), signature),
+    )
 }
 
 // The block of FIPS 197, C.1.
@@ -112,9 +91,9 @@ const KEY: [u8; 16] = [
 #[test]
 fn reads_a_header(rt: HostRuntime) {
     let octets = tool_header();
-    for form in [MetaPlace::Header, MetaPlace::Attribute] {
+    for meta_place in [MetaPlace::Header, MetaPlace::Attribute] {
         assert_eq!(rt;
-            outcome(&rt, &octets, form, SIGNATURE),
+            outcome(&rt, &octets, meta_place, SIGNATURE),
             Ok((1, 0xa, 8192, KEY))
         );
     }
@@ -133,10 +112,10 @@ fn names_the_first_cause(rt: HostRuntime) {
         (26, 0xed, BadCause::Packet(26)),
         (3, 1, BadCause::TooLarge(0x1_0000_0001)),
     ];
-    for (place, octet, cause) in changes {
-        assert!(rt; place < 81);
+    for (offset, octet, cause) in changes {
+        assert!(rt; offset < 81);
         let mut octets = tool_header();
-        octets[place] = octet;
+        octets[offset] = octet;
         assert_eq!(rt;
             outcome(&rt, &octets, MetaPlace::Header, SIGNATURE),
             Err(HeaderError::Bad(cause))
@@ -173,7 +152,7 @@ fn writes_a_header(rt: HostRuntime) -> Result<(), Fail> {
         Ok((1, 2, 8192, KEY))
     );
     let attribute = NewMeta {
-        form: MetaPlace::Attribute,
+        meta_place: MetaPlace::Attribute,
         ..NEW
     };
     let mut octets = write_header(rt.alloc(), &attribute)?;
@@ -184,10 +163,4 @@ fn writes_a_header(rt: HostRuntime) -> Result<(), Fail> {
         Ok((5, 2, 8192, KEY))
     );
     Ok(())
-}
-
-#[test]
-fn has_laws() {
-    new_metadata_is_read_again();
-    new_size_is_read_again();
 }

@@ -1,3 +1,4 @@
 pub mod PassphraseKey
 pub mod FileKey
 pub mod ExtentIv
+pub mod SignedKey

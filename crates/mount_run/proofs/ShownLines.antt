@@ -5,14 +5,14 @@ use Rattle.std.specs.List.{AllByRecursion, flat_map}
 use Rattle.std.proofs.lemmas.List.{append-nil, map-append, flat_map_more}
 use Rattle.lower_model.specs.declared.node.LowerNode.{LowerNode}
 use Rattle.tree_model.specs.Listing.{numbered}
-use Rattle.content_model.specs.Content.{Ring}
+use Rattle.key_model.specs.SignedKey.{SignedKey}
 use Rattle.show_model.specs.declared.item.ShowItem.{ShowItem}
 use Rattle.show_model.specs.Show.{TellsNode, TellsItems, numbered_path}
 use Rattle.show_model.specs.ShowText.{item_line}
 use Rattle.mount_run.specs.ShowLines.{AddsLine, AddsLines}
 
 -- lines that were added for the first of these paths; the others follow, from a number on
-pub record AddedSoFar (ring : Ring) (nodes : List LowerNode) (paths : List (List (List ℕ))) (old new : List ℕ) (next : ℕ) (rest : List (List (List ℕ))) : Type 0 where
+pub record AddedSoFar (ring : List SignedKey) (nodes : List LowerNode) (paths : List (List (List ℕ))) (old new : List ℕ) (next : ℕ) (rest : List (List (List ℕ))) : Type 0 where
   pub items : List ShowItem
   pub numbers : map numbered_path items ++ numbered next rest ≡ numbered 1 paths
   pub told : TellsItems ring nodes items
@@ -22,11 +22,11 @@ All-push : {X : Type 0} (P : X → Type 0) (xs : List X) (x : X) → AllByRecurs
 All-push P [] x all one = (one, tt)
 All-push P (first ∷ xs) x all one = (all.0, All-push P xs x all.1 one)
 
-pub none_added : (ring : Ring) (nodes : List LowerNode) (paths rest : List (List (List ℕ))) (old : List ℕ) (next : ℕ) → numbered next rest ≡ numbered 1 paths → AddedSoFar ring nodes paths old old next rest
+pub none_added : (ring : List SignedKey) (nodes : List LowerNode) (paths rest : List (List (List ℕ))) (old : List ℕ) (next : ℕ) → numbered next rest ≡ numbered 1 paths → AddedSoFar ring nodes paths old old next rest
 none_added ring nodes paths rest old next all = record { items = []; numbers = all; told = tt; text = sym (append-nil old) }
 
 -- one more line
-pub added_more : (ring : Ring) (nodes : List LowerNode) (paths rest : List (List (List ℕ))) (old mid new : List ℕ) (number : ℕ) (path : List (List ℕ)) (node : LowerNode)
+pub added_more : (ring : List SignedKey) (nodes : List LowerNode) (paths rest : List (List (List ℕ))) (old mid new : List ℕ) (number : ℕ) (path : List (List ℕ)) (node : LowerNode)
     → AddedSoFar ring nodes paths old mid number (path ∷ rest) → slice_get nodes number ≡ Some node → AddsLine ring number path node mid new → AddedSoFar ring nodes paths old new (number + 1) rest
 added_more ring nodes paths rest old mid new number path node so_far at line =
     let items = so_far.items in
@@ -41,7 +41,7 @@ added_more ring nodes paths rest old mid new number path node so_far at line =
     }
 
 -- all lines
-pub all_added : (ring : Ring) (nodes : List LowerNode) (paths rest : List (List (List ℕ))) (old new : List ℕ) (next : ℕ) → AddedSoFar ring nodes paths old new next rest → rest ≡ [] → AddsLines ring nodes paths old new
+pub all_added : (ring : List SignedKey) (nodes : List LowerNode) (paths rest : List (List (List ℕ))) (old new : List ℕ) (next : ℕ) → AddedSoFar ring nodes paths old new next rest → rest ≡ [] → AddsLines ring nodes paths old new
 all_added ring nodes paths rest old new next so_far none = record {
   items = so_far.items;
   numbers = sym (append-nil (map numbered_path so_far.items)) ∙ ap (λ (r : List (List (List ℕ))). map numbered_path so_far.items ++ numbered next r) (sym none) ∙ so_far.numbers;

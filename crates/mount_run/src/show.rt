@@ -1,12 +1,13 @@
-ghost use Rattle.std.specs.Prelude.{◌≡◌, ◌≤◌, ◌+◌, [], length, Some, IfOk, OnOk};
+ghost use Rattle.std.specs.Prelude.{◌≡◌, ◌≤◌, ◌+◌, ◌∷◌, [], length, Some, IfOk, OnOk};
 ghost use Rattle.job_model.specs.Job.{IsJob};
 ghost use Rattle.show_model.specs.Show.{Shows, TellsNode};
 ghost use Rattle.mount_run.specs.ShowLines.{AddsLine, AddsLines};
 
-use crate::ring::JobRing;
+use crate::ring::passphrase_ring;
 use extent_file::decode_body;
 use job_text::Job;
 use lower_model::{Kind, LowerNode};
+use packet_set::OneKeyRing;
 use plain_names::listed_paths;
 use report_text::{put_show_end, put_show_head, put_show_item};
 use show_model::{ShowItem, ShowWhat};
@@ -14,8 +15,8 @@ use std::alloc::{AllocError, Global};
 use tree_model::Path;
 
 // What stands at a node, a file with its content.
-fn node_content(alloc: Global, node: &LowerNode, ring: &JobRing) -> Result<ShowWhat, AllocError>
-    ensures { IfOk result (λ what. TellsNode (record { signature = ring.now.signature; kek = ring.now.kek }) (Some node.now) what) }
+fn node_content(alloc: Global, node: &LowerNode, ring: &OneKeyRing) -> Result<ShowWhat, AllocError>
+    ensures { IfOk result (λ what. TellsNode (ring.now ∷ []) (Some node.now) what) }
 {
     if node.kind == Kind::Dir {
         return Ok(ShowWhat::Dir);
@@ -35,9 +36,9 @@ fn put_node(
     number: u32,
     path: Path,
     node: &LowerNode,
-    ring: &JobRing,
+    ring: &OneKeyRing,
 ) -> Result<(), AllocError>
-    ensures { OnOk result (AddsLine (record { signature = ring.now.signature; kek = ring.now.kek }) number path node.now out.old.items out.new.items) }
+    ensures { OnOk result (AddsLine (ring.now ∷ []) number path node.now out.old.items out.new.items) }
 {
     let what = node_content(alloc, node, ring)?;
     let item = ShowItem {
@@ -54,11 +55,11 @@ fn put_nodes(
     out: &mut Vec<u8>,
     nodes: &[LowerNode],
     paths: Vec<Path>,
-    ring: &JobRing,
+    ring: &OneKeyRing,
 ) -> Result<(), AllocError>
     requires count { length paths.items + 1 ≡ length nodes.now }
     requires few { length nodes.now ≤ 4096 }
-    ensures { OnOk result (AddsLines (record { signature = ring.now.signature; kek = ring.now.kek }) nodes.now paths.items out.old.items out.new.items) }
+    ensures { OnOk result (AddsLines (ring.now ∷ []) nodes.now paths.items out.old.items out.new.items) }
 {
     for (k, path) in paths.into_iter().enumerate() {
         put_node(alloc, out, (k + 1) as u32, path, &nodes[k + 1], ring)?;
@@ -75,7 +76,7 @@ pub fn show(alloc: Global, job: &Job, room: Vec<u8>) -> Result<Vec<u8>, AllocErr
     let paths = listed_paths(alloc, &job.image)?;
     let mut out = room;
     put_show_head(&mut out)?;
-    let ring = JobRing::new(&job.salt, job.passphrase.as_slice());
+    let ring = passphrase_ring(&job.salt, job.passphrase.as_slice());
     let added = put_nodes(alloc, &mut out, job.image.nodes(), paths, &ring);
     ring.end();
     added?;

@@ -4,3 +4,5 @@ pub mod Packets
 pub mod Sets
 pub mod Steps
 mod Worked
+pub mod FileKeys
+pub mod Headers

@@ -4,3 +4,4 @@ pub mod FrontPacket
 pub mod PacketSet
 pub mod Metadata
 pub mod FileKey
+pub mod MetadataError

@@ -1,6 +1,3 @@
-/// The greatest size of a file, in octets.
-pub const MAX_SIZE: u64 = 67_108_864;
-
 /// The first cause for which a file is bad. The causes stand in the order in which they are looked for.
 #[derive(Clone, Copy, Debug, PartialEq, Eq)]
 pub enum BadCause {
@@ -16,17 +13,17 @@ pub enum BadCause {
     NotEncrypted,
     /// The header has this size, which isn't a multiple of 4,096 from 8,192 to 1,048,576.
     HeaderSize(u64),
-    /// No pair of packets begins at place 26.
+    /// No pair of packets begins at offset 26.
     NoPacket,
-    /// At this place of the metadata, where a pair would begin, a tag 1 packet begins.
+    /// At this offset in the metadata, where a pair would begin, a public-key packet begins.
     Tag1(usize),
-    /// The packet at this place of the metadata can't be read.
+    /// The packet at this offset in the metadata can't be read.
     Packet(usize),
     /// No pair has a signature of ours; that of the first pair, and our first.
     WrongKey([u8; 8], [u8; 8]),
     /// The first pair with a signature of ours has a wrapped key for this cipher code that can't be used.
     Cipher(u8),
-    /// The file's size, which is over [`MAX_SIZE`].
+    /// The file's size, which is over [`crate::MAX_SIZE`].
     TooLarge(u64),
     /// The body has only so many octets, and needs so many for the file's size.
     ShortData(u64, u64),

@@ -9,7 +9,7 @@ use thiserror::Error;
 pub const MAX_WRAPPED: usize = 512;
 
 /// The body of a tag 3 packet (RFC 2440, 5.3): a wrapped file key.
-#[derive(Drop)]
+#[derive(Debug, Drop)]
 pub struct Tag3 {
     /// The cipher of the file (RFC 2440, 9.2): 7, 8 and 9 are AES-128, AES-192 and AES-256.
     pub cipher: u8,
@@ -29,7 +29,7 @@ pub struct Tag11 {
 }
 
 /// A tag 3 packet and the tag 11 packet right behind it.
-#[derive(Drop)]
+#[derive(Debug, Drop)]
 pub struct Pair {
     /// The wrapped file key.
     pub tag3: Tag3,

@@ -1,2 +1,3 @@
-pub mod Loop
+pub mod PairsInTurn
 pub mod Keys
+pub mod OneKey

@@ -1,18 +1,64 @@
-ghost use Rattle.std.specs.Prelude.{◌≡◌, ℕ, List};
+ghost use Rattle.std.specs.Prelude.{◌≡◌, ◌∷◌, [], List};
+ghost use Rattle.key_model.specs.SignedKey.{SignedKey, keys, signatures};
 
 use secret_key::Kek;
+use std::fmt;
+use std::marker::Model;
 
-/// The key under which a mount reads files.
+/// The keys under which a mount reads files, each with its signature. So far it is one key.
 pub trait Ring {
-    ghost ring_signature: { Self → List ℕ };
+    ghost ring: { Self → List SignedKey };
 
-    ghost ring_kek: { Self → List ℕ };
-
-    /// The signature of the key-encryption key.
+    /// The signature of the key.
     fn signature(&self) -> [u8; 8]
-        ensures { result ≡ ring_signature self.now };
+        ensures { signatures (ring self.now) ≡ result ∷ [] };
 
     /// The key-encryption key.
     fn kek(&self) -> &Kek
-        ensures { result.now ≡ ring_kek self.now };
+        ensures { keys (ring self.now) ≡ result.now ∷ [] };
+}
+
+/// A ring of one key. It has to be ended. Contracts see the key with its signature.
+pub struct OneKeyRing {
+    kek: Kek,
+    signature: [u8; 8],
+}
+
+impl Model for OneKeyRing {
+    ghost Value = { SignedKey };
+
+    ghost view = { λ r. record { signature = r.signature; key = r.kek } };
+}
+
+impl OneKeyRing {
+    /// The ring of this key-encryption key, which has this signature.
+    pub fn new(kek: Kek, signature: [u8; 8]) -> OneKeyRing
+        ensures { result ≡ record { signature = signature; key = kek } }
+    {
+        OneKeyRing { kek, signature }
+    }
+
+    /// Spends the key.
+    pub fn end(self) {
+        let OneKeyRing { kek, signature: _ } = self;
+        kek.spend();
+    }
+}
+
+impl Ring for OneKeyRing {
+    ghost ring = { λ r. r ∷ [] };
+
+    fn signature(&self) -> [u8; 8] {
+        self.signature
+    }
+
+    fn kek(&self) -> &Kek {
+        &self.kek
+    }
+}
+
+impl fmt::Debug for OneKeyRing {
+    fn fmt<W: fmt::Write>(&self, f: &mut fmt::Formatter<W>) -> fmt::Result {
+        f.write_str("OneKeyRing")
+    }
 }

@@ -1,40 +1,18 @@
-use crate::{Found, Ring, SetError, find_key};
+use crate::{Found, OneKeyRing, SetError, find_key, unwrap, wrap};
 use packet_model::BadCause;
-use secret_key::Kek;
+use secret_key::{Fek, Kek};
 use std::alloc::AllocError;
 use std::test::Fail;
-
-struct OwnRing {
-    signature: [u8; 8],
-    kek: Kek,
-}
-
-impl Ring for OwnRing {
-    ghost ring_signature = { λ r. r.signature };
-
-    ghost ring_kek = { λ r. r.kek };
-
-    fn signature(&self) -> [u8; 8] {
-        self.signature
-    }
-
-    fn kek(&self) -> &Kek {
-        &self.kek
-    }
-}
 
 const OURS: [u8; 8] = [1, 2, 3, 4, 5, 6, 7, 8];
 
 const THEIRS: [u8; 8] = [8, 7, 6, 5, 4, 3, 2, 1];
 
 // The key of FIPS 197, C.1, and zeros.
-fn ring() -> OwnRing {
+fn kek() -> Kek {
     let mut octets = [0; 64];
     octets[..16].copy_from_slice(&[0, 1, 2, 3, 4, 5, 6, 7, 8, 9, 10, 11, 12, 13, 14, 15]);
-    OwnRing {
-        signature: OURS,
-        kek: Kek::new(octets),
-    }
+    Kek::new(octets)
 }
 
 // A pair with the block of FIPS 197, C.1, wrapped, or with another block.
@@ -60,10 +38,9 @@ fn push_pair(
 
 // The file key with its signature, or why there is none.
 fn outcome(rt: &HostRuntime, octets: &[u8]) -> Result<([u8; 16], [u8; 8]), SetError> {
-    let ring = ring();
+    let ring = OneKeyRing::new(kek(), OURS);
     let found = find_key(rt.alloc(), octets, &ring);
-    let OwnRing { signature: _, kek } = ring;
-    kek.spend();
+    ring.end();
     let Found { fek, signature } = found?;
     let key = *fek.octets();
     fek.spend();
@@ -127,7 +104,19 @@ fn refuses_other_sets(rt: HostRuntime) -> Result<(), Fail> {
     Ok(())
 }
 
+// FIPS 197, C.1.
 #[test]
-fn has_a_law() {
-    crate::sets_are_read_as_spelled();
+fn wraps_and_unwraps_a_key(rt: HostRuntime) {
+    let wrapped = [
+        0x69, 0xc4, 0xe0, 0xd8, 0x6a, 0x7b, 0x04, 0x30, 0xd8, 0xcd, 0xb7, 0x80, 0x70, 0xb4, 0xc5,
+        0x5a,
+    ];
+    let kek = kek();
+    let fek = Fek::new(KEY);
+    assert_eq!(rt; wrap(&kek, &fek), wrapped);
+    fek.spend();
+    let fek = unwrap(&kek, &wrapped);
+    assert_eq!(rt; *fek.octets(), KEY);
+    fek.spend();
+    kek.spend();
 }

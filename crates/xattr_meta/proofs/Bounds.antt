@@ -5,9 +5,10 @@ use Rattle.std.proofs.lemmas.Bool.{ltb-false}
 use Rattle.lower_model.specs.declared.meta_place.MetaPlace.{MetaPlace}
 use Rattle.packet_model.specs.declared.cause.BadCause.{BadCause}
 use Rattle.packet_model.specs.declared.cause.BadCause.TheVariants.{TooLarge}
-use Rattle.packet_model.specs.declared.cause.TheConstants.{MAX_SIZE}
-use Rattle.packet_model.specs.PacketSet.{◌>>=◌, WrappedKey, key_at}
-use Rattle.packet_model.specs.Metadata.{FileHeader, size_in, mark_in, second_mark_in, marker_sum, version_in, flags_in, has_flag, hmac_flag, encrypted_flag, meta_size_in, is_meta_size, header_fields, packets_in, sized, fields_fault, unless, header_at}
+use Rattle.packet_model.specs.declared.layout.TheConstants.{ENCRYPTED_FLAG, HMAC_FLAG, MARKER, MAX_SIZE, SET_OFFSET, VERSION}
+use Rattle.answer_model.specs.Answer.{◌>>=◌}
+use Rattle.packet_model.specs.PacketSet.{WrappedKey, key_at}
+use Rattle.packet_model.specs.Metadata.{FileHeader, size_in, mark_in, second_mark_in, version_in, flags_in, has_flag, meta_size_in, is_meta_size, header_fields, packets_in, header_with, fields_fault, unless, header_at}
 
 abbrev some : BadCause → Option BadCause
 some cause = Some cause
@@ -39,28 +40,28 @@ is_passed : (b : Bool) → not b ≡ false → b ≡ true
 is_passed true e = refl
 is_passed false e = absurd cc
 
-good_fields : (place : MetaPlace) (octets : List ℕ) → fields_fault place octets ≡ None → is_meta_size place (meta_size_in octets) ≡ true
+good_fields : (meta_place : MetaPlace) (octets : List ℕ) → fields_fault meta_place octets ≡ None → is_meta_size meta_place (meta_size_in octets) ≡ true
 unfolding fields_fault
-good_fields place octets e =
+good_fields meta_place octets e =
     let marker = no_fault (nat_lt (length octets) 26) _ _ e in
-    let version = no_fault (not (bit_xor (mark_in octets) (second_mark_in octets) == marker_sum)) _ _ marker.1 in
+    let version = no_fault (not (bit_xor (mark_in octets) (second_mark_in octets) == MARKER)) _ _ marker.1 in
     let hmac = no_fault (not (version_in octets == 3)) _ _ version.1 in
-    let encrypted = no_fault (has_flag hmac_flag (flags_in octets)) _ _ hmac.1 in
-    let header_size = no_fault (not (has_flag encrypted_flag (flags_in octets))) _ _ encrypted.1 in
-    is_passed (is_meta_size place (meta_size_in octets)) (no_last_fault (not (is_meta_size place (meta_size_in octets))) _ header_size.1)
+    let encrypted = no_fault (has_flag HMAC_FLAG (flags_in octets)) _ _ hmac.1 in
+    let header_size = no_fault (not (has_flag ENCRYPTED_FLAG (flags_in octets))) _ _ encrypted.1 in
+    is_passed (is_meta_size meta_place (meta_size_in octets)) (no_last_fault (not (is_meta_size meta_place (meta_size_in octets))) _ header_size.1)
 
 -- the numbers of a good header
-pub record IsGood (place : MetaPlace) (header : FileHeader) : Type 0 where
+pub record IsGood (meta_place : MetaPlace) (header : FileHeader) : Type 0 where
   pub size : header.size ≤ MAX_SIZE
-  pub meta_size : is_meta_size place header.meta_size ≡ true
+  pub meta_size : is_meta_size meta_place header.meta_size ≡ true
 
-pub good_header : (place : MetaPlace) (ours : List (List ℕ)) (octets : List ℕ) (header : FileHeader) → header_at place ours octets ≡ Ok header → IsGood place header
+pub good_header : (meta_place : MetaPlace) (ours : List (List ℕ)) (octets : List ℕ) (header : FileHeader) → header_at meta_place ours octets ≡ Ok header → IsGood meta_place header
 unfolding header_at
-good_header place ours octets header e =
-    let fields = passed (fields_fault place octets) _ header e in
-    let key = behind_key (key_at ours (packets_in octets)) (sized octets) header fields.1 in
+good_header meta_place ours octets header e =
+    let fields = passed (fields_fault meta_place octets) _ header e in
+    let key = behind_key (key_at ours (packets_in octets)) (header_with octets) header fields.1 in
     let size = within (nat_lt MAX_SIZE (size_in octets)) (TooLarge (size_in octets)) (header_fields octets key.0) header key.1 in
     record {
       size = subst (λ (h : FileHeader). h.size ≤ MAX_SIZE) size.1 (ltb-false MAX_SIZE (size_in octets) size.0);
-      meta_size = subst (λ (h : FileHeader). is_meta_size place h.meta_size ≡ true) size.1 (good_fields place octets fields.0);
+      meta_size = subst (λ (h : FileHeader). is_meta_size meta_place h.meta_size ≡ true) size.1 (good_fields meta_place octets fields.0);
     }

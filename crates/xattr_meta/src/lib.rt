@@ -2,12 +2,10 @@
 //! body is long enough for it.
 #![tactic(auto)]
 
-mod meta;
-mod reading;
+mod file_meta;
 #[cfg(test)]
 mod tests;
 
 pub use file_header::{BadCause, HeaderError, MetaPlace};
-pub use meta::FileMeta;
+pub use file_meta::{FileMeta, read_meta};
 pub use packet_set::Ring;
-pub use reading::read_meta;

@@ -1,24 +1,6 @@
-use crate::{BadCause, FileMeta, HeaderError, MetaPlace, Ring, read_meta};
+use crate::{BadCause, FileMeta, HeaderError, MetaPlace, read_meta};
+use packet_set::OneKeyRing;
 use secret_key::Kek;
-
-struct OwnRing {
-    signature: [u8; 8],
-    kek: Kek,
-}
-
-impl Ring for OwnRing {
-    ghost ring_signature = { λ r. r.signature };
-
-    ghost ring_kek = { λ r. r.kek };
-
-    fn signature(&self) -> [u8; 8] {
-        self.signature
-    }
-
-    fn kek(&self) -> &Kek {
-        &self.kek
-    }
-}
 
 // Metadata for one octet, as the usual tool writes it. The wrapped key is the cipher text of FIPS 197, C.1.
 const ONE_OCTET: [u8; 81] = [
@@ -35,7 +17,7 @@ const KEY: [u8; 16] = [
     0x00, 0x11, 0x22, 0x33, 0x44, 0x55, 0x66, 0x77, 0x88, 0x99, 0xaa, 0xbb, 0xcc, 0xdd, 0xee, 0xff,
 ];
 
-// The size, the place, where the data begins and the file key; or no metadata, or why there is none.
+// The size, the metadata place, where the data begins and the file key; or no metadata, or why there is none.
 fn outcome(
     rt: &HostRuntime,
     head: &[u8],
@@ -44,25 +26,21 @@ fn outcome(
 ) -> Result<Option<(u64, MetaPlace, u64, [u8; 16])>, HeaderError> {
     let mut key = [0; 64];
     key[..16].copy_from_slice(&[0, 1, 2, 3, 4, 5, 6, 7, 8, 9, 10, 11, 12, 13, 14, 15]);
-    let ring = OwnRing {
-        signature: [1, 2, 3, 4, 5, 6, 7, 8],
-        kek: Kek::new(key),
-    };
+    let ring = OneKeyRing::new(Kek::new(key), [1, 2, 3, 4, 5, 6, 7, 8]);
     let read = read_meta(rt.alloc(), head, attribute, len, &ring);
-    let OwnRing { signature: _, kek } = ring;
-    kek.spend();
+    ring.end();
     match read? {
         None => Ok(None),
         Some(meta) => {
             let FileMeta {
                 size,
-                place,
+                meta_place,
                 data_start,
                 fek,
             } = meta;
             let key = *fek.octets();
             fek.spend();
-            Ok(Some((size, place, data_start, key)))
+            Ok(Some((size, meta_place, data_start, key)))
         }
     }
 }

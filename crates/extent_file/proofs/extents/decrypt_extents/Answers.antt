@@ -1,6 +1,6 @@
 use Rattle.std.proofs.Common.{◌/◌, length, arith, rules}
 use Rattle.key_model.specs.ExtentIv.{root_iv}
-use Rattle.extent_file.specs.Steps.{IsDecryptedTo}
+use Rattle.extent_file.specs.DecryptedExtents.{IsDecryptedTo}
 use Rattle.extent_file.proofs.extents.decrypt_extents.Goals as goal
 
 pub returns : goal.returns

@@ -1,4 +1,4 @@
-use Rattle.extent_file.specs.Steps.{IsDecryptedTo}
+use Rattle.extent_file.specs.DecryptedExtents.{IsDecryptedTo}
 use Rattle.extent_file.proofs.extents.decrypt_extents.Given as goal
 
 abbrev pub invariant-extents : goal.invariant-extents

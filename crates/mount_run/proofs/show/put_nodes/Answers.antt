@@ -1,7 +1,7 @@
-use Rattle.std.proofs.Common.{◌≡◌, ◌+◌, ◌<◌, ℕ, List, ◌∷◌, Some, length, ap, sym, subst, ◌∙◌, arith, rules, slice_get}
+use Rattle.std.proofs.Common.{◌≡◌, ◌+◌, ◌<◌, ℕ, List, [], ◌∷◌, Some, length, ap, sym, subst, ◌∙◌, arith, rules, slice_get}
 use Rattle.std.proofs.lemmas.Grind.{common_steps}
 use Rattle.std.proofs.lemmas.Option.{slice_get-get_or}
-use Rattle.content_model.specs.Content.{Ring}
+use Rattle.key_model.specs.SignedKey.{SignedKey}
 use Rattle.mount_run.proofs.ShownLines.{AddedSoFar, none_added, added_more, all_added}
 use Rattle.mount_run.proofs.show.put_nodes.Goals as goal
 
@@ -12,7 +12,7 @@ pub loop-k-preserved : goal.loop-k-preserved
 loop-k-preserved c =
     let steps = c.in-Some.ensures.steps in
     let rest = c.next.new.self.iter.rest.items in
-    let ring : Ring = record { signature = c.args.ring.now.signature; kek = c.args.ring.now.kek } in
+    let ring : List SignedKey = c.args.ring.now ∷ [] in
     let nodes = c.args.nodes.now in
     let paths = c.args.paths.items in
     let old = c.args.out.now.items in

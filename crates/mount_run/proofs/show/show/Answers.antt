@@ -1,25 +1,23 @@
-use Rattle.std.proofs.Common.{◌≡◌, ◌++◌, ℕ, List, ap, subst, sym, ◌∙◌}
+use Rattle.std.proofs.Common.{◌≡◌, ◌++◌, ◌∷◌, [], ℕ, List, ap, subst, sym, ◌∙◌}
 use Rattle.std.specs.List.{flat_map}
 use Rattle.lower_model.specs.declared.node.LowerNode.{LowerNode}
 use Rattle.tree_model.specs.Listing.{ListsTree}
 use Rattle.tree_model.specs.Shown.{shown}
-use Rattle.content_model.specs.Content.{Ring}
+use Rattle.key_model.specs.SignedKey.{SignedKey}
 use Rattle.show_model.specs.ShowText.{show_head, show_end, item_line}
 use Rattle.show_model.specs.Show.{TellsImage, TellsItems, ring_of}
 use Rattle.mount_run.specs.ShowLines.{AddsLines}
-use Rattle.mount_run.specs.declared.ring.JobRing.{JobRing}
 use Rattle.mount_run.proofs.show.show.Goals as goal
 
 pub returns : goal.returns
 returns c =
     let job = c.args.job.now in
-    let of : JobRing → Ring = λ ring. record { signature = ring.signature; kek = ring.kek } in
-    let ring : of c.new-ring.result ≡ ring_of job.salt job.passphrase =
-    ap of c.new-ring.ensures ∙ ap (λ (passphrase : List ℕ). ring_of job.salt passphrase) c.as_slice.ensures in
+    let ring : c.passphrase_ring-ring.result ∷ [] ≡ ring_of job.salt job.passphrase =
+    ap (λ (key : SignedKey). key ∷ []) c.passphrase_ring-ring.ensures ∙ ap (λ (passphrase : List ℕ). ring_of job.salt passphrase) c.as_slice.ensures in
     let added = c.in_ok-added.ensures in
     let tells : TellsImage job added.items = record {
       listed = subst (λ listing. ListsTree (shown 255 job.image) listing) (sym added.numbers) (c.in_ok-paths.ensures.listed 255);
-      told = subst (λ (r : Ring). TellsItems r job.image added.items) ring (subst (λ (nodes : List LowerNode). TellsItems (of c.new-ring.result) nodes added.items) c.nodes.ensures.nodes added.told);
+      told = subst (λ (r : List SignedKey). TellsItems r job.image added.items) ring (subst (λ (nodes : List LowerNode). TellsItems (c.passphrase_ring-ring.result ∷ []) nodes added.items) c.nodes.ensures.nodes added.told);
     } in
     record {
       items = added.items;

@@ -1,5 +1,0 @@
-use Rattle.file_header.proofs.NewMetadata.{size_again_read}
-use Rattle.file_header.proofs.law.new_size_is_read_again.Goals as goal
-
-pub returns : goal.returns
-returns c = size_again_read
