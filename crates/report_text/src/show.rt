@@ -1,5 +1,6 @@
-ghost use Rattle.std.specs.Prelude.{◌≡◌, ◌∷◌, ◌++◌, [], IfOk, OnOk};
+ghost use Rattle.std.specs.Prelude.{◌≡◌, ◌∷◌, ◌++◌, [], IfOk, OnOk, OnErr};
 ghost use Rattle.std.specs.List.{flat_map};
+ghost use Rattle.octet_model.specs.Octets.{BeginsWith};
 ghost use Rattle.line_writer.specs.Fields.{spaced};
 ghost use Rattle.text_model.specs.Line.{number, hex};
 ghost use Rattle.show_model.specs.CauseText.{cause_fields};
@@ -14,35 +15,40 @@ use std::alloc::{AllocError, Global};
 // The fields of a line behind its first, each with a space before it.
 
 fn put_word_field(out: &mut Vec<u8>, word: &str) -> Result<(), AllocError>
-    ensures { OnOk result (out.new.items ≡ out.old.items ++ 32 ∷ word.now) }
+    ensures ok { OnOk result (out.new.items ≡ out.old.items ++ 32 ∷ word.now) }
+    ensures err { OnErr result (BeginsWith out.new.items out.old.items) }
 {
     put_space(out)?;
     put_word(out, word)
 }
 
 fn put_number_field(out: &mut Vec<u8>, n: u64) -> Result<(), AllocError>
-    ensures { OnOk result (out.new.items ≡ out.old.items ++ 32 ∷ number n) }
+    ensures ok { OnOk result (out.new.items ≡ out.old.items ++ 32 ∷ number n) }
+    ensures err { OnErr result (BeginsWith out.new.items out.old.items) }
 {
     put_space(out)?;
     put_number(out, n)
 }
 
 fn put_hex_field(out: &mut Vec<u8>, octets: &[u8]) -> Result<(), AllocError>
-    ensures { OnOk result (out.new.items ≡ out.old.items ++ 32 ∷ hex octets.now) }
+    ensures ok { OnOk result (out.new.items ≡ out.old.items ++ 32 ∷ hex octets.now) }
+    ensures err { OnErr result (BeginsWith out.new.items out.old.items) }
 {
     put_space(out)?;
     put_hex(out, octets)
 }
 
 fn put_count(out: &mut Vec<u8>, word: &str, n: u64) -> Result<(), AllocError>
-    ensures { OnOk result (out.new.items ≡ out.old.items ++ spaced (word.now ∷ number n ∷ [])) }
+    ensures ok { OnOk result (out.new.items ≡ out.old.items ++ spaced (word.now ∷ number n ∷ [])) }
+    ensures err { OnErr result (BeginsWith out.new.items out.old.items) }
 {
     put_word_field(out, word)?;
     put_number_field(out, n)
 }
 
 fn put_octets(out: &mut Vec<u8>, word: &str, first: &[u8], second: &[u8]) -> Result<(), AllocError>
-    ensures { OnOk result (out.new.items ≡ out.old.items ++ spaced (word.now ∷ hex first.now ∷ hex second.now ∷ [])) }
+    ensures ok { OnOk result (out.new.items ≡ out.old.items ++ spaced (word.now ∷ hex first.now ∷ hex second.now ∷ [])) }
+    ensures err { OnErr result (BeginsWith out.new.items out.old.items) }
 {
     put_word_field(out, word)?;
     put_hex_field(out, first)?;
@@ -50,7 +56,8 @@ fn put_octets(out: &mut Vec<u8>, word: &str, first: &[u8], second: &[u8]) -> Res
 }
 
 fn put_cause(out: &mut Vec<u8>, cause: &BadCause) -> Result<(), AllocError>
-    ensures { OnOk result (out.new.items ≡ out.old.items ++ spaced (cause_fields cause.now)) }
+    ensures ok { OnOk result (out.new.items ≡ out.old.items ++ spaced (cause_fields cause.now)) }
+    ensures err { OnErr result (BeginsWith out.new.items out.old.items) }
 {
     match cause {
         BadCause::Short(have) => put_count(out, "short", *have as u64),
@@ -79,7 +86,8 @@ fn put_cause(out: &mut Vec<u8>, cause: &BadCause) -> Result<(), AllocError>
 
 // The octets of a file, or `-` for none.
 fn put_data(out: &mut Vec<u8>, octets: &[u8]) -> Result<(), AllocError>
-    ensures { OnOk result (out.new.items ≡ out.old.items ++ data_field octets.now) }
+    ensures ok { OnOk result (out.new.items ≡ out.old.items ++ data_field octets.now) }
+    ensures err { OnErr result (BeginsWith out.new.items out.old.items) }
 {
     if octets.is_empty() {
         return put_word(out, "-");
@@ -88,7 +96,8 @@ fn put_data(out: &mut Vec<u8>, octets: &[u8]) -> Result<(), AllocError>
 }
 
 fn put_content(out: &mut Vec<u8>, content: &Content) -> Result<(), AllocError>
-    ensures { OnOk result (out.new.items ≡ out.old.items ++ spaced (content_fields content.now)) }
+    ensures ok { OnOk result (out.new.items ≡ out.old.items ++ spaced (content_fields content.now)) }
+    ensures err { OnErr result (BeginsWith out.new.items out.old.items) }
 {
     match content {
         Content::Empty => put_word_field(out, "empty"),
@@ -106,7 +115,8 @@ fn put_content(out: &mut Vec<u8>, content: &Content) -> Result<(), AllocError>
 
 // What a line tells behind the path.
 fn put_what(out: &mut Vec<u8>, what: &ShowWhat) -> Result<(), AllocError>
-    ensures { OnOk result (out.new.items ≡ out.old.items ++ spaced (what_fields what.now)) }
+    ensures ok { OnOk result (out.new.items ≡ out.old.items ++ spaced (what_fields what.now)) }
+    ensures err { OnErr result (BeginsWith out.new.items out.old.items) }
 {
     match what {
         ShowWhat::Dir => Ok(()),
@@ -125,14 +135,16 @@ fn kind_letter(what: &ShowWhat) -> &'static str
 
 /// Adds the first line of a show text.
 pub fn put_show_head(out: &mut Vec<u8>) -> Result<(), AllocError>
-    ensures { OnOk result (out.new.items ≡ out.old.items ++ show_head) }
+    ensures ok { OnOk result (out.new.items ≡ out.old.items ++ show_head) }
+    ensures err { OnErr result (out.new.items ≡ out.old.items) }
 {
     put_word(out, "ecryptfs-show 1\n")
 }
 
 /// Adds the line of a node.
 pub fn put_show_item(out: &mut Vec<u8>, item: &ShowItem) -> Result<(), AllocError>
-    ensures { OnOk result (out.new.items ≡ out.old.items ++ item_line item.now) }
+    ensures ok { OnOk result (out.new.items ≡ out.old.items ++ item_line item.now) }
+    ensures err { OnErr result (BeginsWith out.new.items out.old.items) }
 {
     put_word(out, kind_letter(&item.what))?;
     put_number_field(out, item.node as u64)?;
@@ -144,7 +156,8 @@ pub fn put_show_item(out: &mut Vec<u8>, item: &ShowItem) -> Result<(), AllocErro
 
 /// Adds the last line of a show text.
 pub fn put_show_end(out: &mut Vec<u8>) -> Result<(), AllocError>
-    ensures { OnOk result (out.new.items ≡ out.old.items ++ show_end) }
+    ensures ok { OnOk result (out.new.items ≡ out.old.items ++ show_end) }
+    ensures err { OnErr result (out.new.items ≡ out.old.items) }
 {
     put_word(out, "end\n")
 }

@@ -1,5 +1,7 @@
 use crate::run::{EMPTY_IMAGE, failing_run, job, run};
-use mount_run::{BAD_JOB, MemSink, MemSource, READ_FAULT, USAGE, WRITE_FAULT, run_alone, status_name};
+use mount_run::{
+    BAD_JOB, MemSink, MemSource, READ_FAULT, USAGE, WRITE_FAULT, run_alone, status_name,
+};
 use std::test::Fail;
 
 #[test]

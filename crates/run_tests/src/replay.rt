@@ -17,7 +17,8 @@ fn the_report_of_no_operations(rt: HostRuntime) -> Result<(), Fail> {
 #[test]
 fn the_report_of_each_reply(rt: HostRuntime) -> Result<(), Fail> {
     let alloc = rt.alloc();
-    let image = b"ECRYIMG1\x00\x00\x00\x01\x00\x01\x01\x01f\x01\x00\x00\x00\x02at\x00\x00\x00\x04body";
+    let image =
+        b"ECRYIMG1\x00\x00\x00\x01\x00\x01\x01\x01f\x01\x00\x00\x00\x02at\x00\x00\x00\x04body";
     let lines = [
         "mkdir /a",
         "mkdir /a/b%20%ff",
@@ -51,7 +52,11 @@ fn as_many_levels_as_there_are_nodes(rt: HostRuntime) -> Result<(), Fail> {
         image.extend_from_slice(&level.to_be_bytes())?;
         image.extend_from_slice(b"\x00\x01d")?;
     }
-    let (status, report) = run(alloc, "replay", job(alloc, &image, &["mkdir /e", "list /"])?)?;
+    let (status, report) = run(
+        alloc,
+        "replay",
+        job(alloc, &image, &["mkdir /e", "list /"])?,
+    )?;
     assert_eq!(rt; status, OK);
     assert!(rt; report.starts_with(b"ecryptfs-report 1\nsession 0 2\nerr nonodes\nnames d:d\n"));
     let mut wanted = Vec::from_slice(alloc, &image)?;

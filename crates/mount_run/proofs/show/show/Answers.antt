@@ -22,6 +22,6 @@ returns c =
     record {
       items = added.items;
       tells = tells;
-      text = c.in_ok-put_show_end.ensures ∙ ap (λ (t : List ℕ). t ++ show_end) (added.text ∙ ap (λ (t : List ℕ). t ++ flat_map item_line added.items)
-          (c.in_ok-put_show_head.ensures ∙ ap (λ (t : List ℕ). t ++ show_head) c.requires.empty));
+      text = c.in_ok-put_show_end.ensures.ok ∙ ap (λ (t : List ℕ). t ++ show_end) (added.text ∙ ap (λ (t : List ℕ). t ++ flat_map item_line added.items)
+          (c.in_ok-put_show_head.ensures.ok ∙ ap (λ (t : List ℕ). t ++ show_head) c.requires.empty));
     }

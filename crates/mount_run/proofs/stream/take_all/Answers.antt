@@ -1,14 +1,10 @@
-use Rattle.std.proofs.Common.{◌≤◌, List, ℕ, Result, Ok, Err, ◌++◌, length, take, arith}
-use Rattle.std.specs.Prelude.{OnErr}
+use Rattle.std.proofs.Common.{List, ℕ, ◌++◌, take, arith}
 use Rattle.std.proofs.lemmas.Grind.{common_steps}
 use Rattle.std.proofs.lemmas.List.{length-append}
 use Rattle.std.proofs.KnownBytes.{Consumes-trans}
+use Rattle.line_writer.proofs.FieldLemmas.{after_error}
 use Rattle.mount_run.specs.InputAndOutput.{TookSome}
 use Rattle.mount_run.proofs.stream.take_all.Goals as goal
-
-on_err : {A E : Type 0} (r : Result A E) (P : Type 0) → P → OnErr r P
-on_err (Ok x) P holds = tt
-on_err (Err e) P holds = holds
 
 pub returns-in_err-extend_from_slice-clause-part : goal.returns-in_err-extend_from_slice-clause-part
 returns-in_err-extend_from_slice-clause-part g c =
@@ -19,4 +15,4 @@ returns-in_err-extend_from_slice-clause-part g c =
       taken = Consumes-trans _ _ _ taken piece c.loop-buffer.invariant.taken c.in_ok-count.ensures.octets.0;
       few = grind (arith, common_steps, length-append taken piece, c.in_ok-count.ensures.within, c.read.auto.to);
     } in
-    on_err _ _ part
+    after_error c.from_residual-in_err-extend_from_slice.result _ part
