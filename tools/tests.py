@@ -346,7 +346,7 @@ class Unpack(Tools):
     def test_a_passphrase_that_opens_no_file_is_told(self):
         wrong_key = b"bad wrongkey 0011223344556677 8899aabbccddeeff"
         ran = self.unpack(b"f 1 /a " + wrong_key, b"f 2 /b empty", b"f 3 /c bad version 4")
-        self.assertEqual((ran.returncode, ran.stderr.count(b"\n")), (3, 3))
+        self.assertEqual((ran.returncode, ran.stderr.count(b"\n")), (4, 3))
         self.assertTrue(ran.stderr.endswith(b"\nunpack: no file opens with this passphrase and salt\n"), ran.stderr)
         ran = self.unpack(b"f 1 /a " + wrong_key, b"f 2 /b good 0 -", folder="other")
         self.assertTrue(ran.stderr.endswith(b"\nunpack: 1 of 2 entries were left out\n"), ran.stderr)
