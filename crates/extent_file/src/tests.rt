@@ -21,7 +21,11 @@ const FIRST_BLOCK: [u8; 16] = [
     0xaa, 0x09, 0x81, 0x51, 0x29, 0xc2, 0xc9, 0xd1, 0x5e, 0x03, 0xa3, 0xf9, 0xfd, 0xfc, 0x7c, 0x3f,
 ];
 
-fn decoded(rt: &HostRuntime, body: &[u8], attribute: Option<&[u8]>) -> Result<Content, AllocError> {
+fn content_of(
+    rt: &HostRuntime,
+    body: &[u8],
+    attribute: Option<&[u8]>,
+) -> Result<Content, AllocError> {
     let mut key = [0; 64];
     key[..16].copy_from_slice(&[0, 1, 2, 3, 4, 5, 6, 7, 8, 9, 10, 11, 12, 13, 14, 15]);
     let ring = OneKeyRing::new(Kek::new(key), [1, 2, 3, 4, 5, 6, 7, 8]);
@@ -36,8 +40,8 @@ fn a_file_of_two_extents(rt: HostRuntime) -> Result<(), Fail> {
     body.resize(16_384, 0)?;
     let extents = [0; 8192];
     for content in [
-        decoded(&rt, &body, None),
-        decoded(&rt, &extents, Some(&METADATA)),
+        content_of(&rt, &body, None),
+        content_of(&rt, &extents, Some(&METADATA)),
     ] {
         let Content::Good(octets) = content? else {
             panic!(rt; "a good file")
@@ -51,10 +55,10 @@ fn a_file_of_two_extents(rt: HostRuntime) -> Result<(), Fail> {
 
 #[test]
 fn files_without_octets(rt: HostRuntime) -> Result<(), Fail> {
-    let Content::Empty = decoded(&rt, &[], None)? else {
+    let Content::Empty = content_of(&rt, &[], None)? else {
         panic!(rt; "an empty file")
     };
-    let Content::Bad(cause) = decoded(&rt, &[0; 8191], Some(&METADATA))? else {
+    let Content::Bad(cause) = content_of(&rt, &[0; 8191], Some(&METADATA))? else {
         panic!(rt; "a cut file")
     };
     assert_eq!(rt; cause, BadCause::ShortData(8191, 8192));

@@ -2,7 +2,7 @@
 // implementation of SHA-512, its file key from one of AES; with that the body shows the file's content.
 ghost use Rattle.std.specs.Prelude.{◌<◌};
 
-use crate::tests::{Opened, opened};
+use crate::tests::{Values, values_of};
 use crate::{BadCause, HeaderError, MetaPlace};
 use packet_set::OneKeyRing;
 use secret_key::Kek;
@@ -32,7 +32,7 @@ const KEY: [u8; 16] = [
 ];
 
 // From the first offset to the last, what is read where all bits of the octet there are turned.
-const OPENED: [(usize, usize, Opened); 10] = [
+const OPENED: [(usize, usize, Values); 10] = [
     (5, 5, (16_716_680, 10, 8192, KEY)),
     (6, 6, (60_552, 10, 8192, KEY)),
     (7, 7, (4983, 10, 8192, KEY)),
@@ -120,13 +120,13 @@ fn header() -> [u8; 8192] {
     octets
 }
 
-fn read(rt: &HostRuntime, octets: &[u8]) -> Result<Opened, HeaderError> {
+fn read(rt: &HostRuntime, octets: &[u8]) -> Result<Values, HeaderError> {
     let ring = OneKeyRing::new(Kek::new(KEK), SIGNATURE);
-    opened(rt, octets, MetaPlace::Header, ring)
+    values_of(rt, octets, MetaPlace::Header, ring)
 }
 
 // Whether this is read wherever one of these octets is turned.
-fn reads(rt: &HostRuntime, first: usize, last: usize, want: Result<Opened, HeaderError>) -> bool
+fn reads(rt: &HostRuntime, first: usize, last: usize, want: Result<Values, HeaderError>) -> bool
     requires { last < 8192 }
 {
     let mut octets = header();
@@ -156,7 +156,7 @@ fn opens_with_another_octet(rt: HostRuntime) {
     }
 }
 
-fn has_another_key(read: &Result<Opened, HeaderError>) -> bool {
+fn has_another_key(read: &Result<Values, HeaderError>) -> bool {
     *read != Ok((5000, 10, 8192, KEY)) && matches!(read, Ok((5000, 10, 8192, _)))
 }
 

@@ -2,6 +2,7 @@ use packet_model::MetaPlace;
 use secret_key::Fek;
 
 /// The metadata of a file. Its file key has to be spent.
+#[derive(Debug)]
 pub struct Meta {
     /// The size of the file's content, in octets.
     pub size: u64,

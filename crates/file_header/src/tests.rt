@@ -1,11 +1,7 @@
-use crate::{
-    BadCause, HeaderError, Meta, MetaPlace, NewMeta, read_header, write_header, write_size,
-};
+use crate::{HeaderError, Meta, MetaPlace, NewMeta, read_header, write_header, write_size};
 use packet_set::OneKeyRing;
 use secret_key::Kek;
 use std::test::Fail;
-
-const OURS: [u8; 8] = [9, 8, 7, 6, 5, 4, 3, 2];
 
 const SIGNATURE: [u8; 8] = [1, 2, 3, 4, 5, 6, 7, 8];
 
@@ -44,15 +40,15 @@ fn tool_header() -> [u8; 81] {
 }
 
 /// The size, the flags, the size of the metadata and the file key.
-pub type Opened = (u64, u32, u64, [u8; 16]);
+pub type Values = (u64, u32, u64, [u8; 16]);
 
 /// What is read of some octets, or why nothing is. The ring's key is spent.
-pub fn opened(
+pub fn values_of(
     rt: &HostRuntime,
     octets: &[u8],
     meta_place: MetaPlace,
     ring: OneKeyRing,
-) -> Result<Opened, HeaderError> {
+) -> Result<Values, HeaderError> {
     let read = read_header(rt.alloc(), octets, meta_place, &ring);
     ring.end();
     let Meta {
@@ -72,10 +68,10 @@ fn outcome(
     octets: &[u8],
     meta_place: MetaPlace,
     signature: [u8; 8],
-) -> Result<Opened, HeaderError> {
+) -> Result<Values, HeaderError> {
     let mut key = [0; 64];
     key[..16].copy_from_slice(&[0, 1, 2, 3, 4, 5, 6, 7, 8, 9, 10, 11, 12, 13, 14, 15]);
-    opened(
+    values_of(
         rt,
         octets,
         meta_place,
@@ -97,49 +93,6 @@ fn reads_a_header(rt: HostRuntime) {
             Ok((1, 0xa, 8192, KEY))
         );
     }
-}
-
-#[test]
-fn names_the_first_cause(rt: HostRuntime) {
-    let changes: [(usize, u8, BadCause); 9] = [
-        (15, 0xb0, BadCause::Marker(0x1122_3344, 0x2da3_84b0)),
-        (16, 2, BadCause::Version(2)),
-        (19, 3, BadCause::Hmac),
-        (19, 8, BadCause::NotEncrypted),
-        (25, 1, BadCause::HeaderSize(4096)),
-        (26, 0x00, BadCause::NoPacket),
-        (26, 0x01, BadCause::Tag1(26)),
-        (26, 0xed, BadCause::Packet(26)),
-        (3, 1, BadCause::TooLarge(0x1_0000_0001)),
-    ];
-    for (offset, octet, cause) in changes {
-        assert!(rt; offset < 81);
-        let mut octets = tool_header();
-        octets[offset] = octet;
-        assert_eq!(rt;
-            outcome(&rt, &octets, MetaPlace::Header, SIGNATURE),
-            Err(HeaderError::Bad(cause))
-        );
-    }
-    let octets = tool_header();
-    let cuts: [(usize, BadCause); 5] = [
-        (25, BadCause::Short(25)),
-        (26, BadCause::NoPacket),
-        (56, BadCause::Packet(26)),
-        (57, BadCause::Packet(57)),
-        (80, BadCause::Packet(57)),
-    ];
-    for (len, cause) in cuts {
-        assert!(rt; len <= 81);
-        assert_eq!(rt;
-            outcome(&rt, &octets[..len], MetaPlace::Header, SIGNATURE),
-            Err(HeaderError::Bad(cause))
-        );
-    }
-    assert_eq!(rt;
-        outcome(&rt, &octets, MetaPlace::Header, OURS),
-        Err(HeaderError::Bad(BadCause::WrongKey(SIGNATURE, OURS)))
-    );
 }
 
 #[test]

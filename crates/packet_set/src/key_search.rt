@@ -14,6 +14,7 @@ use secret_key::Fek;
 use std::alloc::Global;
 
 /// A file key, and the signature of the key that wraps it. The file key has to be spent.
+#[derive(Debug)]
 pub struct Found {
     /// The file key.
     pub fek: Fek,

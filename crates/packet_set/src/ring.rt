@@ -1,8 +1,8 @@
-ghost use Rattle.std.specs.Prelude.{◌≡◌, ◌∷◌, [], List};
+ghost use Rattle.std.specs.Prelude.{◌≡◌, ◌∷◌, [], List, Some, codes};
 ghost use Rattle.key_model.specs.SignedKey.{SignedKey, keys, signatures};
 
 use secret_key::Kek;
-use std::fmt;
+use std::fmt::{self, Debug, Formatter, Write};
 use std::marker::Model;
 
 /// The keys under which a mount reads files, each with its signature. So far it is one key.
@@ -57,8 +57,11 @@ impl Ring for OneKeyRing {
     }
 }
 
-impl fmt::Debug for OneKeyRing {
-    fn fmt<W: fmt::Write>(&self, f: &mut fmt::Formatter<W>) -> fmt::Result {
+// The name alone.
+impl Debug for OneKeyRing {
+    ghost debug_output = { λ _. Some (codes "OneKeyRing") };
+
+    fn fmt<W: Write>(&self, f: &mut Formatter<W>) -> fmt::Result {
         f.write_str("OneKeyRing")
     }
 }

@@ -74,36 +74,6 @@ fn finds_the_second_of_three(rt: HostRuntime) -> Result<(), Fail> {
     Ok(())
 }
 
-#[test]
-fn refuses_other_sets(rt: HostRuntime) -> Result<(), Fail> {
-    let mut octets = Vec::new(rt.alloc());
-    push_pair(&mut octets, 8, 0x69, OURS)?;
-    push_pair(&mut octets, 7, 0x69, OURS)?;
-    let cases: [(usize, usize, Result<([u8; 16], [u8; 8]), SetError>); 6] = [
-        (0, 110, Err(SetError::Bad(BadCause::Cipher(8)))),
-        (0, 54, Err(SetError::Bad(BadCause::Packet(57)))),
-        (0, 56, Err(SetError::Bad(BadCause::Packet(81)))),
-        (0, 0, Err(SetError::Bad(BadCause::NoPacket))),
-        (31, 110, Err(SetError::Bad(BadCause::Packet(26)))),
-        (55, 110, Ok((KEY, OURS))),
-    ];
-    for (from, to, answer) in cases {
-        assert!(rt; from <= to && to <= octets.len());
-        assert_eq!(rt;
-            outcome(&rt, &octets[from..to]),
-            answer,
-            "the octets {from} to {to}"
-        );
-    }
-    octets.clear();
-    push_pair(&mut octets, 7, 0x69, THEIRS)?;
-    assert_eq!(rt;
-        outcome(&rt, &octets),
-        Err(SetError::Bad(BadCause::WrongKey(THEIRS, OURS)))
-    );
-    Ok(())
-}
-
 // FIPS 197, C.1.
 #[test]
 fn wraps_and_unwraps_a_key(rt: HostRuntime) {

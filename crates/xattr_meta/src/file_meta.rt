@@ -14,6 +14,7 @@ use secret_key::Fek;
 use std::alloc::Global;
 
 /// What the metadata of a good file says. Its file key has to be spent.
+#[derive(Debug)]
 pub struct FileMeta {
     /// The size of the file's content, in octets.
     pub size: u64,
