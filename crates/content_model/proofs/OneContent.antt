@@ -57,5 +57,6 @@ one_content_by ring (Ok None) body c d fits a b = a ∙ sym b
 one_content_by ring (Err cause) body c d fits a b = a ∙ sym b
 one_content_by ring (Ok (Some found)) body c d fits a b = one_good ring found body c d fits a b
 
+-- a file has one content
 pub one_content : (ring : List SignedKey) (body : List ℕ) (attribute : Option (List ℕ)) (c d : Content) → AreOctets body → IsContent ring body attribute c → IsContent ring body attribute d → c ≡ d
 one_content ring body attribute c d fits a b = one_content_by ring (metadata (signatures ring) body attribute) body c d fits a b

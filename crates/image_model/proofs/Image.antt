@@ -104,6 +104,7 @@ AreOctets-entries path number (n ∷ nodes) are =
     let behind = path_behind path (level_in path n.parent) number n in
     AreOctets-append (entry (level_in path n.parent) n) (entries behind (number + 1) nodes) (AreOctets-entry path (level_in path n.parent) n are.0) (AreOctets-entries behind (number + 1) nodes are.1)
 
+-- an image consists of octets
 pub AreOctets-image : (nodes : List LowerNode) → IsLowerTree nodes → AreOctets (image nodes)
 AreOctets-image [] h = tt
 AreOctets-image (r ∷ nodes) h =
@@ -124,5 +125,6 @@ reading_takes octets nodes fits e = nodes_take octets nodes fits (with_offset-ok
 pub reading_again : (nodes : List LowerNode) → IsLowerTree nodes → reading (image nodes) ≡ Ok nodes
 reading_again nodes h = ap (with_offset (length (image nodes))) (nodes_again nodes h)
 
+-- an image is that of one lower tree
 pub one_tree : (xs ys : List LowerNode) → IsLowerTree xs → IsLowerTree ys → image xs ≡ image ys → xs ≡ ys
 one_tree xs ys lawful others e = ok_is {E = ImageFault} xs ys (sym (reading_again xs lawful) ∙ ap reading e ∙ reading_again ys others)

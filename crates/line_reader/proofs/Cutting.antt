@@ -11,6 +11,7 @@ use Rattle.std.specs.Option.{option_map}
 use Rattle.line_reader.specs.Lines.{cut_in}
 use Rattle.line_reader.proofs.Words.{is_other}
 
+-- whether this is the octet at which a text is cut
 abbrev pub is_at : ℕ → ℕ → Bool
 is_at octet c = c == octet
 

@@ -48,22 +48,26 @@ each_none : {A : Type 0} (read : List ℕ → Option A) → each_in read [] ≡ 
 unfolding each_in
 each_none read = refl
 
+-- behind the fields so far, one more has a value
 pub field_goes_on : {A : Type 0} (octet : ℕ) (read : List ℕ → Option A) (front : List A) (text part rest : List ℕ) (value : A) (total : Option (List A)) → cut_in octet text ≡ Some (part, rest) → read part ≡ Some value
     → with_front front (each_in read (slice_split (is_at octet) text)) ≡ total → with_front (front ++ value ∷ []) (each_in read (slice_split (is_at octet) rest)) ≡ total
 field_goes_on octet read front text part rest value total e r so_far =
     let others = slice_split (is_at octet) rest in
     sym (front_more front value (each_in read others)) ∙ ap (with_front front) (sym (ap (each_in read) (split_more octet text part rest e) ∙ each_more read part value others r)) ∙ so_far
 
+-- behind the fields so far, one has none
 pub field_stops : {A : Type 0} (octet : ℕ) (read : List ℕ → Option A) (front : List A) (text part rest : List ℕ) (total : Option (List A)) → cut_in octet text ≡ Some (part, rest) → read part ≡ None
     → with_front front (each_in read (slice_split (is_at octet) text)) ≡ total → total ≡ None
 field_stops octet read front text part rest total e r so_far =
     sym so_far ∙ ap (with_front front) (ap (each_in read) (split_more octet text part rest e) ∙ each_stop read part (slice_split (is_at octet) rest) r)
 
+-- behind the fields so far, the last one has a value
 pub field_ends : {A : Type 0} (octet : ℕ) (read : List ℕ → Option A) (front : List A) (text : List ℕ) (value : A) (total : Option (List A)) → cut_in octet text ≡ None → read text ≡ Some value
     → with_front front (each_in read (slice_split (is_at octet) text)) ≡ total → total ≡ Some (front ++ value ∷ [])
 field_ends octet read front text value total e r so_far =
     sym so_far ∙ ap (with_front front) (ap (each_in read) (split_last octet text e) ∙ each_more read text value [] r ∙ ap (option_map (λ values. value ∷ values)) (each_none read))
 
+-- behind the fields so far, the last one has none
 pub last_stops : {A : Type 0} (octet : ℕ) (read : List ℕ → Option A) (front : List A) (text : List ℕ) (total : Option (List A)) → cut_in octet text ≡ None → read text ≡ None
     → with_front front (each_in read (slice_split (is_at octet) text)) ≡ total → total ≡ None
 last_stops octet read front text total e r so_far =

@@ -107,6 +107,7 @@ glyph_word n lt = grind (arith, nat_tests)
 glyph_digit : (n : ℕ) → n < 16 → (is_hex_digit (glyph n) ≡ true) × (is_word (glyph n) ≡ true)
 glyph_digit n lt = (glyph_hex n lt, glyph_word n lt)
 
+-- the spelling of octets has digits alone, and no blank or line end
 pub hex_digits : (octets : List ℕ) → AreOctets octets → (list_all is_hex_digit (hex octets) ≡ true) × (list_all is_word (hex octets) ≡ true)
 unfolding encode_with
 hex_digits [] fits = (refl, refl)
@@ -118,6 +119,7 @@ hex_digits (x ∷ xs) fits =
     let others = hex_digits xs fits.1 in
     (rw (digit_is (x / 16) high, digit_is (x % 16) low, h.0, l.0) others.0, rw (digit_is (x / 16) high, digit_is (x % 16) low, h.1, l.1) others.1)
 
+-- octets in hexadecimal are read exactly
 pub hex_reader : IsReader hex_in hex AreOctets
 unfolding hex_in
 hex_reader = record { found = found; again = again }
@@ -130,6 +132,7 @@ hex_reader = record { found = found; again = again }
     again : (octets : List ℕ) → AreOctets octets → hex_in (hex octets) ≡ Some octets
     again octets fits = rw ((hex_digits octets fits).0, decode_of-encode_lower octets (λ i. octet_at octets i fits)) refl
 
+-- so many octets in hexadecimal are read exactly
 pub sized_hex_reader : (count : ℕ) → IsReader (sized_hex_in count) hex (HasOctets count)
 unfolding sized_hex_in
 sized_hex_reader count = record { found = found; again = again }

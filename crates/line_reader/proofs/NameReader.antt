@@ -126,6 +126,7 @@ octets_again (x ∷ xs) fits =
       | inr q ↦ rw (q, (sized_hex_reader 1).again (x ∷ []) (record { length_is = refl; octets = (fits.0, tt) }), q) (ap (put x) (octets_again xs fits.1))
     ]
 
+-- the spelling of octets in a name has no blank and no line end
 pub name_words : (octets : List ℕ) → AreOctets octets → list_all is_word (name octets) ≡ true
 name_words [] fits = refl
 name_words (x ∷ xs) fits = both is_word (name_octet x) (name xs) octet (name_words xs fits.1)

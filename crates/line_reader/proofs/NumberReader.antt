@@ -21,6 +21,7 @@ use Rattle.line_reader.proofs.Readers.{IsReader}
 abbrev pub AreDigits : List ℕ → Type 0
 AreDigits text = list_all is_ascii_digit text ≡ true
 
+-- the value of digits is that of decimal numerals
 pub own : IsNumeralModel AreDigits (value_behind 0)
 own = numerals_by_fold AreDigits (search rules) value_behind (search rules)
 
@@ -56,6 +57,7 @@ decimal_is (suc n) fits =
     let first = first_decimal (suc n) (omega arith) fits in
     record { digits = digits_decimal own (suc n) fits; some = decimal_nonempty (suc n) fits; lead = λ is. absurd (omega arith) }
 
+-- numbers below 2^64 are read exactly
 pub number_reader : IsReader number_in number IsU64
 unfolding number_in
 number_reader = record { found = found; again = again }
@@ -96,12 +98,14 @@ parsed text r e h = parsed_as text r e (parse_digits own 64 text r h (numeral_fr
 
 -- ---- numbers of any size
 
+-- a number below 2^64 is a number of any size
 pub any_from_number : (text : List ℕ) (n : ℕ) → number_in text ≡ Some n → any_number_in text ≡ Some n
 unfolding number_in any_number_in
 any_from_number text n e =
     let c = cond_some (is_number text && ltb (value_behind 0 text) (2 ^ 64)) (value_behind 0 text) n e in
     rw (and_parts (is_number text) (ltb (value_behind 0 text) (2 ^ 64)) c.0).0 (ap Some c.1)
 
+-- a number of any size that is below 2^64 is read as one
 pub number_from_any : (text : List ℕ) (n : ℕ) → n < 2 ^ 64 → any_number_in text ≡ Some n → number_in text ≡ Some n
 unfolding number_in any_number_in
 number_from_any text n fits e =

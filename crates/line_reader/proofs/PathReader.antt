@@ -56,6 +56,7 @@ pub record AreSome {A : Type 0} (Fits : A → Type 0) (values : List A) : Type 0
   pub some : 0 < length values
   pub each : AllByRecursion Fits values
 
+-- fields between octets that none of them has are read exactly
 pub fields_reader : {A : Type 0} (octet : ℕ) (read : List ℕ → Option A) (spell : A → List ℕ) (Fits : A → Type 0) → IsReader read spell Fits → ((value : A) → Fits value → list_all (is_other octet) (spell value) ≡ true)
     → IsReader (λ text. each_in read (slice_split (is_at octet) text)) (λ values. join_with_byte octet (map spell values)) (AreSome Fits)
 fields_reader {A} octet read spell Fits r clean = record { found = found; again = again }
@@ -107,6 +108,7 @@ not_false : (b : Bool) → not b ≡ false → b ≡ true
 not_false true e = refl
 not_false false e = absurd cc
 
+-- paths are read exactly
 pub path_reader : IsReader path_in path IsPath
 unfolding path_in
 path_reader = record { found = found; again = again }

@@ -11,12 +11,15 @@ use Rattle.text_model.specs.Line.{is_plain}
 abbrev pub is_word : ℕ → Bool
 is_word c = is_plain c || c == 37
 
+-- whether an octet is another one
 abbrev pub is_other : ℕ → ℕ → Bool
 is_other octet c = not (c == octet)
 
+-- a test that holds in two lists holds in both of them joined
 pub both : (p : ℕ → Bool) (xs ys : List ℕ) → list_all p xs ≡ true → list_all p ys ≡ true → list_all p (xs ++ ys) ≡ true
 both p xs ys e f = list_all-append p xs ys ∙ ap (λ b. b && list_all p ys) e ∙ f
 
+-- a weaker test holds as well
 pub weaker : (p q : ℕ → Bool) → ((c : ℕ) → p c ≡ true → q c ≡ true) → (xs : List ℕ) → list_all p xs ≡ true → list_all q xs ≡ true
 weaker p q h [] e = refl
 weaker p q h (x ∷ xs) e =

@@ -49,5 +49,6 @@ AreOctets-drop (suc n) (x ∷ xs) fits = AreOctets-drop n xs fits.1
 pub AreOctets-be_16 : (n : ℕ) → AreOctets (to_be_bytes w16 n)
 AreOctets-be_16 n = (omega arith, (omega arith, tt))
 
+-- the four octets of a number
 pub AreOctets-be_32 : (n : ℕ) → AreOctets (to_be_bytes w32 n)
 AreOctets-be_32 n = (omega arith, (omega arith, (omega arith, (omega arith, tt))))

@@ -9,6 +9,7 @@ pub record Found (text octets : List ℕ) (used : ℕ) : Type 0 where
   pub parts : octets ≡ text ++ drop used octets
   pub long : used ≡ length text
 
+-- which branch of a choice gave its value
 pub chosen : {A : Type 0} (b : Bool) (x y z : A) → cond b x y ≡ z → ((b ≡ true) × (x ≡ z)) ⊎ ((b ≡ false) × (y ≡ z))
 chosen true x y z e = inl (refl, e)
 chosen false x y z e = inr (refl, e)

@@ -175,6 +175,7 @@ tag11_fields_again s p h =
     let signature : drop (length (tag11_body s p) - 8) (tag11_body s p) ≡ p.signature = ap (λ (n : ℕ). drop n (tag11_body s p)) k ∙ behind in
     λ i. record { signature = signature i }
 
+-- a tag 11 packet that was written is read, whatever follows
 pub tag11_again : (s : Skipped) (p : Tag11) (rest : List ℕ) → IsTag11 s p → tag11_at (tag11 s p ++ rest) ≡ some (p, length (tag11 s p))
 unfolding tag11_at
 tag11_again s p rest h =
@@ -213,6 +214,7 @@ octets_of_body tag octets body used fits found =
     let all : AreOctets (packet tag body ++ drop used octets) = subst AreOctets found.parts fits in
     AreOctets-back (length_octets (length body)) body (AreOctets-front (length_octets (length body) ++ body) (drop used octets) all.1)
 
+-- what is read as a tag 11 packet is one, with some skipped fields
 pub tag11_takes : (octets : List ℕ) (x : Tag11 × ℕ) → AreOctets octets → tag11_at octets ≡ some x → HasTag11 octets x
 unfolding tag11_at
 tag11_takes octets x fits e =

@@ -16,6 +16,7 @@ use Rattle.packet_model.specs.PacketSet.{begins_pair, begins_tag1, at_offset, pa
 use Rattle.packet_model.proofs.Found.{Found, some, chosen}
 use Rattle.packet_model.proofs.Packets.{tag3_again, tag3_takes, tag11_again, tag11_takes}
 
+-- a value, with the type of a cause
 abbrev pub ok : {A : Type 0} → A → Result A BadCause
 ok x = Ok x
 
@@ -124,6 +125,7 @@ unfolding pairs_at
 ends_here zero offset octets e = refl
 ends_here (suc most) offset octets e = rw e refl
 
+-- pairs that were written are read
 pub pairs_again : (pairs : List Pair) (most offset : ℕ) (octets : List ℕ) → IsSet pairs octets → length octets ≤ most → pairs_at most offset octets ≡ ok pairs
 pairs_again [] most offset octets is le = ends_here most offset octets is
 pairs_again (p ∷ pairs) zero offset octets is le =
