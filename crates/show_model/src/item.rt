@@ -2,7 +2,7 @@ use content_model::Content;
 use tree_model::Path;
 
 /// What stands at a node.
-#[derive(Drop)]
+#[derive(Debug, Drop)]
 pub enum ShowWhat {
     /// A directory.
     Dir,
@@ -11,7 +11,7 @@ pub enum ShowWhat {
 }
 
 /// A line of a show text.
-#[derive(Drop)]
+#[derive(Debug, Drop)]
 pub struct ShowItem {
     /// The number of the node, by which the image counts it.
     pub node: u32,

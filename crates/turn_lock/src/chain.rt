@@ -1,6 +1,7 @@
 ghost use Rattle.std.specs.Prelude.{◌≡◌, ◌++◌, ◌∷◌, ◌<◌, ◌^◌, [], length, map, ◌≤◌, slice_get, MatchOption, IfOk, Some};
 
 use std::alloc::{AllocError, Global};
+use std::fmt::{self, Debug, Formatter, Write};
 use std::marker::Model;
 use std::mem;
 
@@ -37,6 +38,12 @@ impl<E: Drop> Link<E> {
     }
 }
 
+impl<E> Debug for Link<E> {
+    fn fmt<W: Write>(&self, f: &mut Formatter<W>) -> fmt::Result {
+        f.write_str("Link")
+    }
+}
+
 /// A list of entries that grows at its end by links. Contracts see the list.
 #[derive(Drop)]
 pub struct Chain<E> {
@@ -53,6 +60,13 @@ impl<E> Model for Chain<E> {
     ghost view = { λ c. entries_of c.top };
 
     ghost invariant = { λ c. c.count ≡ min (length (entries_of c.top)) (2 ^ 64 - 1) };
+}
+
+// The name alone, since a chain may have a million entries.
+impl<E> Debug for Chain<E> {
+    fn fmt<W: Write>(&self, f: &mut Formatter<W>) -> fmt::Result {
+        f.write_str("Chain")
+    }
 }
 
 impl<E: Drop> Chain<E> {
