@@ -1,5 +1,5 @@
 -- What the metadata of a file says, and what new metadata is made of.
-use Rattle.std.specs.Prelude.{ℕ, ◌≡◌, List}
+use Rattle.std.specs.Prelude.{◌≡◌, List}
 use Rattle.key_model.specs.SignedKey.{SignedKey}
 use Rattle.packet_model.specs.declared.layout.TheConstants.{AES_128}
 use Rattle.packet_model.specs.Metadata.{FileHeader, NewHeader}

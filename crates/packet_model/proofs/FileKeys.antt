@@ -1,16 +1,12 @@
 -- A wrapped key is that of one file key, and a file key is wrapped in one way.
-use Rattle.std.proofs.Common.{◌≡◌, ℕ, zero, suc, ◌<◌, ◌+◌, ◌%◌, List, [], ◌∷◌, length, take, get_or, Option, Some, None, Bool, true, false, cond, ap, sym, subst, ◌∙◌, arith}
+use Rattle.std.proofs.Common.{◌≡◌, ℕ, ◌%◌, List, length, take, Option, Some, None, ap, sym, ◌∙◌, arith}
 use Rattle.std.specs.Prelude.{IsSomeAnd}
-use Rattle.std.specs.Str.{bytes_eq}
-use Rattle.std.specs.Option.{option_map}
-use Rattle.std.specs.List.{find}
 use Rattle.octet_model.specs.Octets.{AreOctets}
 use Rattle.cipher_model.specs.Blocks.{block_at}
-use Rattle.cipher_model.specs.Ecb.{IsEcb}
 use Rattle.cipher_model.specs.Aes.{encrypted}
 use Rattle.cipher_model.proofs.PlainTexts.{ecb-only}
 use Rattle.cipher_model.proofs.Texts.{same_text}
-use Rattle.key_model.specs.SignedKey.{SignedKey, signatures, keys, key_with}
+use Rattle.key_model.specs.SignedKey.{SignedKey, key_with}
 use Rattle.packet_model.specs.PacketSet.{WrappedKey}
 use Rattle.packet_model.specs.FileKey.{IsFileKey, Unwraps}
 

@@ -1,5 +1,5 @@
 -- The key of a ring that has one.
-use Rattle.std.proofs.Common.{◌≡◌, ℕ, Bool, true, false, List, [], ◌∷◌, Option, Some, None, Result, Ok, refl, sym, ap, subst, ◌∙◌}
+use Rattle.std.proofs.Common.{◌≡◌, ℕ, Bool, true, false, List, [], ◌∷◌, Option, Some, Result, Ok, refl, sym, ap, subst, ◌∙◌}
 use Rattle.std.specs.Prelude.{IsOkAnd, IsSomeAnd, ◌||◌}
 use Rattle.std.specs.Str.{bytes_eq}
 use Rattle.key_model.specs.SignedKey.{SignedKey, signatures, keys, key_with}

@@ -5,7 +5,7 @@ use Rattle.std.proofs.lemmas.Bool.{ltb-false}
 use Rattle.lower_model.specs.declared.meta_place.MetaPlace.{MetaPlace}
 use Rattle.packet_model.specs.declared.cause.BadCause.{BadCause}
 use Rattle.packet_model.specs.declared.cause.BadCause.TheVariants.{TooLarge}
-use Rattle.packet_model.specs.declared.layout.TheConstants.{ENCRYPTED_FLAG, HMAC_FLAG, MARKER, MAX_SIZE, SET_OFFSET, VERSION}
+use Rattle.packet_model.specs.declared.layout.TheConstants.{ENCRYPTED_FLAG, HMAC_FLAG, MARKER, MAX_SIZE}
 use Rattle.answer_model.specs.Answer.{◌>>=◌}
 use Rattle.packet_model.specs.PacketSet.{WrappedKey, key_at}
 use Rattle.packet_model.specs.Metadata.{FileHeader, size_in, mark_in, second_mark_in, version_in, flags_in, has_flag, meta_size_in, is_meta_size, header_fields, packets_in, header_with, fields_fault, unless, header_at}

@@ -1,7 +1,7 @@
 -- What is answered of a file's metadata, from what is answered of the octets in which it stands.
-use Rattle.std.proofs.Common.{◌≡◌, ℕ, List, Option, Some, None, Result, Ok, Err, sym, subst, ap, ◌∙◌}
+use Rattle.std.proofs.Common.{◌≡◌, List, Option, Some, None, Result, Ok, Err, sym, subst, ap, ◌∙◌}
 use Rattle.std.specs.Prelude.{IsOkAnd}
-use Rattle.answer_model.specs.Answer.{◌>>=◌, FailsAs, GivesBy}
+use Rattle.answer_model.specs.Answer.{FailsAs}
 use Rattle.key_model.specs.SignedKey.{SignedKey}
 use Rattle.packet_model.specs.declared.cause.BadCause.{BadCause}
 use Rattle.packet_model.specs.Metadata.{FileMetadata, if_any}

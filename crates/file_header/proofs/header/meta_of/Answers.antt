@@ -1,10 +1,7 @@
-use Rattle.std.proofs.Common.{◌≡◌, ◌≤◌, false, ltb, refl, subst, sym}
+use Rattle.std.proofs.Common.{◌≡◌, ◌≤◌, false, ltb, subst}
 use Rattle.std.proofs.lemmas.Bool.{le-ltb}
-use Rattle.std.specs.Prelude.{IsOkAnd, Result}
-use Rattle.packet_model.specs.declared.cause.BadCause.{BadCause}
 use Rattle.packet_model.specs.declared.layout.TheConstants.{MAX_SIZE}
-use Rattle.packet_model.specs.Metadata.{FileHeader, size_in, header_fields, header_with}
-use Rattle.file_header.specs.Meta.{IsMeta}
+use Rattle.packet_model.specs.Metadata.{size_in}
 use Rattle.file_header.proofs.header.meta_of.Goals as goal
 
 pub returns : goal.returns

@@ -1,4 +1,4 @@
-use Rattle.std.proofs.Common.{◌≡◌, ◌∷◌, [], None, Result, sym, subst, ◌∙◌}
+use Rattle.std.proofs.Common.{◌≡◌, None, Result, sym, subst, ◌∙◌}
 use Rattle.std.proofs.lemmas.Result.{err_from_is_err_and}
 use Rattle.answer_model.specs.Answer.{GivesBy}
 use Rattle.answer_model.proofs.Values.{value_of}
@@ -7,7 +7,7 @@ use Rattle.key_model.specs.SignedKey.{signatures}
 use Rattle.packet_model.specs.declared.cause.BadCause.{BadCause}
 use Rattle.packet_model.specs.MetadataError.{cause_of}
 use Rattle.packet_model.specs.PacketSet.{key_at}
-use Rattle.packet_model.specs.Metadata.{FileHeader, HeaderTakesMemory, fields_fault, header_at, header_with}
+use Rattle.packet_model.specs.Metadata.{FileHeader, HeaderTakesMemory, fields_fault, header_with}
 use Rattle.packet_set.specs.Found.{IsFound}
 use Rattle.file_header.specs.Meta.{IsMeta}
 use Rattle.file_header.proofs.KeyBehindFields.{refused, key_fails, key_found}

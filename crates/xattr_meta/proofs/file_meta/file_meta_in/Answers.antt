@@ -1,4 +1,4 @@
-use Rattle.std.proofs.Common.{◌≡◌, ◌≤◌, ℕ, true, List, Result, sym, ap, subst}
+use Rattle.std.proofs.Common.{◌≡◌, ◌≤◌, ℕ, true, Result, sym, ap, subst}
 use Rattle.answer_model.specs.Answer.{◌>>=◌, GivesBy}
 use Rattle.answer_model.proofs.Values.{value_of}
 use Rattle.answer_model.proofs.MoreMemory.{GivesBy-more}
