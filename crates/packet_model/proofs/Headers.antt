@@ -21,6 +21,7 @@ use Rattle.packet_model.proofs.Sets.{ok, pair_begins}
 set_takes : (octets : List ℕ) (x : Tag3 × ℕ) → tag3_at octets ≡ some x → SetTakesMemory octets
 set_takes octets x e = subst (λ (o : Option (Tag3 × ℕ)). IsSome o) (sym e) refl
 
+-- a pair that is read takes memory
 pub pair_takes_memory : (offset : ℕ) (octets : List ℕ) (x : Pair × ℕ) → pair_at offset octets ≡ ok x → SetTakesMemory octets
 pair_takes_memory offset octets x e = let p = pair_begins offset octets x e in set_takes octets p.0 p.1
 
