@@ -31,7 +31,7 @@ class Entry:
     path: bytes
     parent: "Entry | None"
     kind: Kind
-    found: os.stat_result
+    found: os.stat_result | None
     why: str | None = None  # why its octets aren't read
     first: "Entry | None" = None  # where a file has several names, the one that was met first
     attribute: int | None = None  # the octets of its attribute
@@ -139,10 +139,16 @@ def look_into(tree, entry, folder, name):
 
 def entry_at(tree, parent, folder, name, device):
     """The entry with this name in an open directory."""
-    found = os.stat(name, dir_fd=folder, follow_symlinks=False)
     path = os.path.join(parent.path, name) if parent else name
-    if stat.S_ISDIR(found.st_mode):
-        return Entry(path, parent, Kind.DIRECTORY, found, None if found.st_dev == device else "on another file system")
+    try:
+        found = os.stat(name, dir_fd=folder, follow_symlinks=False)
+    except OSError as error:
+        return Entry(path, parent, Kind.OTHER, None, unreadable(error))
+    kind = Kind.DIRECTORY if stat.S_ISDIR(found.st_mode) else Kind.FILE if stat.S_ISREG(found.st_mode) else Kind.OTHER
+    if found.st_dev != device:
+        return Entry(path, parent, kind, found, "on another file system")
+    if kind is Kind.DIRECTORY:
+        return Entry(path, parent, kind, found)
     if not stat.S_ISREG(found.st_mode):
         return Entry(path, parent, Kind.OTHER, found, what_else(found.st_mode))
     entry = Entry(path, parent, Kind.FILE, found)
@@ -167,14 +173,7 @@ def entries_in(tree, parent, folders, device):
             raise
         parent.why = unreadable(error)
         return []
-    entries = []
-    for name in names:
-        try:
-            entries.append(entry_at(tree, parent, folder, name, device))
-        except FileNotFoundError:
-            # (it was removed since the directory was listed)
-            continue
-    return entries
+    return [entry_at(tree, parent, folder, name, device) for name in names]
 
 
 def walk(root, tell=lambda count: None):

@@ -121,7 +121,10 @@ class ShowJobs:
                 raise Stopped
             # (a group of its own, so that a signal from the terminal comes to this program alone)
             streams = {"stdin": subprocess.PIPE, "stdout": subprocess.PIPE, "stderr": subprocess.DEVNULL}
-            process = subprocess.Popen([self.program, "show"], bufsize=PIECE, process_group=0, **streams)
+            try:
+                process = subprocess.Popen([self.program, "show"], bufsize=PIECE, process_group=0, **streams)
+            except OSError as error:
+                raise Failed(f"it can't be started: {error.strerror}") from None
             self.running.add(process)
         for pipe in (process.stdin, process.stdout):
             try:

@@ -71,6 +71,11 @@ class Record:
             self.write(b"recover-record 1 " + self.room)
         os.truncate(self.file, self.length)
 
+    def remove_new(self):
+        """Removes the record of a target that couldn't be made."""
+        if not self.known:
+            os.unlink(self.path)
+
     def write(self, line):
         """Adds a line, or nothing of it where it can't be written."""
         try:
@@ -114,7 +119,7 @@ class Target:
     def is_done(self, entry):
         """Whether the record has the entry as it is now, and it stands there; then its path is set."""
         known = self.record.known.get(entry.path)
-        if known is None:
+        if known is None or entry.found is None or entry.why and entry.kind is Kind.DIRECTORY:
             return False
         now = (None, None) if entry.kind is Kind.DIRECTORY else (entry.found.st_size, entry.found.st_mtime_ns)
         standing = self.standing(known.upper) if now == (known.size, known.time) else None
@@ -127,10 +132,7 @@ class Target:
         """Makes the folder where it isn't there, and in it the one for files that aren't whole."""
         self.record.begin()
         if self.root is None:
-            self.record.write(ROOT_LINE)
-            os.mkdir(self.path, 0o700)
-            self.record.has_root = True
-            self.open()
+            self.make_root()
         if self.record.has_root:
             os.chmod(self.root, os.stat(self.root).st_mode & NO_SET_ID | 0o700)
         try:
@@ -139,6 +141,16 @@ class Target:
             pass
         self.room = os.open(self.record.room, os.O_RDONLY | os.O_DIRECTORY | os.O_NOFOLLOW, dir_fd=self.root)
         self.clear_room()
+
+    def make_root(self):
+        self.record.write(ROOT_LINE)
+        try:
+            os.mkdir(self.path, 0o700)
+        except OSError:
+            self.record.remove_new()
+            raise
+        self.record.has_root = True
+        self.open()
 
     def clear_room(self):
         """Removes the files that aren't whole."""
