@@ -12,6 +12,8 @@ MOST_JOB = 268_435_456
 MOST_PASSPHRASE = 64
 USUAL_SALT = b"0011223344556677"
 NODE = re.compile(rb"[1-9][0-9]{0,3}")
+# The octets that don't stand for themselves in a name.
+NO_SIGN = re.compile(rb"[^!-~]|[%/]", re.DOTALL)
 BAD = re.compile(rb"bad [0-9a-z]+(?: [0-9a-z]+)*")
 
 
@@ -24,8 +26,7 @@ class Refused(Exception):
 
 def spelled(name):
     """A name as the texts spell it."""
-    stands = lambda octet: 0x21 <= octet <= 0x7E and octet not in b"%/"
-    return b"".join(b"%c" % octet if stands(octet) else b"%%%02x" % octet for octet in name)
+    return NO_SIGN.sub(lambda found: b"%%%02x" % found[0][0], name)
 
 
 def spelled_path(path):

@@ -1,0 +1,86 @@
+#!/usr/bin/env python3
+"""Times tools/recover on one processor: 256 files of 1 MB beside `show` alone on the same jobs, and 50,000 and 100,000 small files.
+
+    bench/recover.py [PROGRAM]        PROGRAM is the built program, by default crates/mount_prog/out/mount_prog
+
+A time is processor time, of Python and of the programs that it starts. It takes some 4 GB in the folder for temporary files.
+"""
+import os
+import subprocess
+import sys
+import tempfile
+
+HERE = os.path.dirname(os.path.abspath(__file__))
+TOOLS = os.path.join(os.path.dirname(HERE), "tools")
+sys.path.insert(0, TOOLS)
+sys.argv, PROGRAM = sys.argv[:1], os.path.abspath((sys.argv[1:] or [os.path.join(HERE, "../crates/mount_prog/out/mount_prog")])[0])
+
+from lower_walk import Folders, batches_of, job_pieces, walk
+from recover_tests import SALT, body
+from show_jobs import Key
+
+MEBIBYTE = 1 << 20
+
+
+def write(path, octets):
+    with open(path, "wb") as file:
+        file.write(octets)
+
+
+def run(command, **streams):
+    """The processor seconds of a command and of what it started, and the most memory that one of them had."""
+    process = subprocess.Popen(command, **streams)
+    _, status, usage = os.wait4(process.pid, 0)
+    if status:
+        sys.exit(f"{command} ended with status {os.waitstatus_to_exitcode(status)}")
+    return usage.ru_utime + usage.ru_stime, usage.ru_maxrss * 1024
+
+
+def recover(room, lower, target):
+    words = ["--jobs", "1", "--program", PROGRAM, "--passphrase-file", f"{room}/passphrase"]
+    return run([sys.executable, f"{TOOLS}/recover", *words, lower, target], stdout=subprocess.DEVNULL)
+
+
+def show(room, lower):
+    """The seconds of `show` on the same batches, each from a file into a file, and its most memory."""
+    root, seconds, most = os.open(lower, os.O_RDONLY), 0, 0
+    for batch in batches_of(walk(root).entries):
+        with open(f"{room}/job", "wb") as job:
+            job.writelines(job_pieces(batch, Key(b"test", SALT), "plain", Folders(root), {}))
+        with open(f"{room}/job", "rb") as job, open(f"{room}/show", "wb") as text:
+            used, memory = run([PROGRAM, "show"], stdin=job, stdout=text)
+        seconds, most = seconds + used, max(most, memory)
+    return seconds, most
+
+
+def large_files(room):
+    lower = f"{room}/large"
+    os.mkdir(lower)
+    for number in range(256):
+        write(f"{lower}/{number:03}", body(1_000_000))
+    alone, memory = min(show(room, lower) for _ in range(3))
+    whole, most = min(recover(room, lower, f"{room}/home{turn}") for turn in range(3))
+    print(f"256 files of 1 MB: show {alone:.2f} s ({256 / alone:.0f} MB/s), tools/recover with it {whole:.2f} s ({256 / whole:.0f} MB/s)")
+    print(f"rate {alone / whole:.2f} of show's (aim: at least 0.40)")
+    print(f"most memory of show {memory / MEBIBYTE:.0f} MiB, of a process of tools/recover {most / MEBIBYTE:.0f} MiB (aim: below 600)")
+
+
+def small_files(room):
+    lower, octets, times = f"{room}/small", body(100), []
+    for number in range(100_000):
+        if number % 1000 == 0:
+            os.makedirs(f"{lower}/{number // 1000:02}")
+        write(f"{lower}/{number // 1000:02}/{number:05}", octets)
+        if number + 1 in (50_000, 100_000):
+            seconds, most = recover(room, lower, f"{room}/home_{number + 1}")
+            times.append(seconds)
+            print(f"{number + 1} files of 100 octets: {seconds:.1f} s, most memory of a process {most / MEBIBYTE:.0f} MiB")
+    again, _ = recover(room, lower, f"{room}/home_100000")
+    print(f"ratio {times[1] / times[0]:.2f} (aim: at most 2.3); a second start {again:.1f} s")
+
+
+os.sched_setaffinity(0, {min(os.sched_getaffinity(0))})
+with tempfile.TemporaryDirectory() as place:
+    write(f"{place}/passphrase", b"test")
+    large_files(place)
+    small_files(place)

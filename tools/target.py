@@ -1,0 +1,280 @@
+"""The folder that is written to, and the record of what stands in it."""
+import fcntl
+import os
+import re
+import stat
+from dataclasses import dataclass
+
+from lower_walk import Folders, Kind
+from show_jobs import TargetFull, refusal
+from texts import Refused, path_of, spelled_path
+
+HEAD = re.compile(rb"recover-record 1 (?P<room>\.recover-[0-9a-f]{8})")
+RECORDED = re.compile(rb"(?:d|f (?P<size>[0-9]{1,20}) (?P<time>-?[0-9]{1,30})) (?P<lower>/[^ ]+) (?P<upper>/[^ ]+)")
+ROOT_LINE = b"d / /"
+THERE = "in the way in the target"
+NO_SET_ID = 0o7777 & ~(stat.S_ISUID | stat.S_ISGID)
+
+
+@dataclass(frozen=True)
+class Recorded:
+    """What the record has of a lower path: its size and time where it is a file, and the path in the target."""
+
+    size: int | None
+    time: int | None
+    upper: bytes
+
+
+class Record:
+    """The file that tells what this program wrote into a target, so that a second start goes on from there."""
+
+    def __init__(self, path):
+        self.path, self.known, self.room, self.has_root, self.length, self.file = path, {}, None, False, 0, None
+        try:
+            self.file = os.open(path, os.O_RDWR | os.O_APPEND | os.O_NOFOLLOW)
+        except FileNotFoundError:
+            return
+        self.lock()
+        with open(path, "rb") as opened:
+            # (a last line that is cut was never acted on)
+            lines = opened.read().rpartition(b"\n")[0].split(b"\n")
+        self.length = sum(len(line) + 1 for line in lines)
+        head = HEAD.fullmatch(lines[0])
+        if head is None:
+            raise Refused(f"{spelled_path(path)}: it is no record of this program")
+        self.room = head["room"]
+        for line in lines[1:]:
+            self.read_line(line)
+
+    def lock(self):
+        try:
+            fcntl.flock(self.file, fcntl.LOCK_EX | fcntl.LOCK_NB)
+        except BlockingIOError:
+            raise Refused(f"{spelled_path(self.path)}: another start of this program is at work") from None
+
+    def read_line(self, line):
+        found = RECORDED.fullmatch(line)
+        if line == ROOT_LINE:
+            self.has_root = True
+        elif found is None:
+            raise Refused(f"{spelled_path(self.path)}: it is no record of this program")
+        else:
+            number = lambda name: None if found[name] is None else int(found[name])
+            self.known[path_of(found["lower"])] = Recorded(number("size"), number("time"), path_of(found["upper"]))
+
+    def begin(self):
+        """Makes the file where there was none, and cuts off a last line that isn't whole."""
+        if self.file is None:
+            self.file = os.open(self.path, os.O_RDWR | os.O_APPEND | os.O_CREAT | os.O_EXCL | os.O_NOFOLLOW, 0o600)
+            self.lock()
+            self.room = b".recover-" + os.urandom(4).hex().encode()
+            self.write(b"recover-record 1 " + self.room)
+        os.truncate(self.file, self.length)
+
+    def remove_new(self):
+        """Removes the record of a target that couldn't be made."""
+        if not self.known:
+            os.unlink(self.path)
+
+    def write(self, line):
+        """Adds a line, or nothing of it where it can't be written."""
+        try:
+            if os.write(self.file, line + b"\n") != len(line) + 1:
+                raise OSError(0, "the record can't be written")
+        except OSError as error:
+            os.truncate(self.file, self.length)
+            raise TargetFull(f"{spelled_path(self.path)}: {error.strerror}") from None
+        self.length += len(line) + 1
+
+    def add(self, entry, upper):
+        """Adds what is about to stand in the target."""
+        paths = f"/{spelled_path(entry.path)} /{spelled_path(upper)}".encode()
+        is_directory = entry.kind is Kind.DIRECTORY
+        self.write(b"d " + paths if is_directory else b"f %d %d " % (entry.found.st_size, entry.found.st_mtime_ns) + paths)
+
+
+class Target:
+    """The folder, reached part by part and over no link."""
+
+    def __init__(self, path, record):
+        self.path, self.record, self.is_made, self.refused_marks = path, record, False, 0
+        self.root = self.room = self.folders = None
+        if os.path.lexists(path):
+            self.open()
+
+    def open(self):
+        self.root = os.open(self.path, os.O_RDONLY | os.O_DIRECTORY)
+        self.folders = Folders(self.root)
+
+    def standing(self, path):
+        """The status of what stands at a path, None where nothing does or it can't be reached."""
+        if self.root is None:
+            return None
+        try:
+            folder, name = self.folders.above(path)
+            return os.stat(name, dir_fd=folder, follow_symlinks=False)
+        except OSError:
+            return None
+
+    def is_done(self, entry):
+        """Whether the record has the entry as it is now, and it stands there; then its path is set."""
+        known = self.record.known.get(entry.path)
+        if known is None or entry.found is None or entry.why and entry.kind is Kind.DIRECTORY:
+            return False
+        now = (None, None) if entry.kind is Kind.DIRECTORY else (entry.found.st_size, entry.found.st_mtime_ns)
+        standing = self.standing(known.upper) if now == (known.size, known.time) else None
+        if standing is None or stat.S_IFMT(standing.st_mode) != stat.S_IFMT(entry.found.st_mode):
+            return False
+        entry.upper, entry.ours = known.upper, True
+        return True
+
+    def begin(self):
+        """Makes the folder where it isn't there, and in it the one for files that aren't whole."""
+        self.record.begin()
+        if self.root is None:
+            self.make_root()
+        if self.record.has_root:
+            os.chmod(self.root, os.stat(self.root).st_mode & NO_SET_ID | 0o700)
+        try:
+            os.mkdir(self.record.room, 0o700, dir_fd=self.root)
+        except FileExistsError:
+            pass
+        self.room = os.open(self.record.room, os.O_RDONLY | os.O_DIRECTORY | os.O_NOFOLLOW, dir_fd=self.root)
+        self.clear_room()
+
+    def make_root(self):
+        self.record.write(ROOT_LINE)
+        try:
+            os.mkdir(self.path, 0o700)
+        except OSError:
+            self.record.remove_new()
+            raise
+        self.record.has_root = True
+        self.open()
+
+    def clear_room(self):
+        """Removes the files that aren't whole."""
+        for name in os.listdir(self.room):
+            if name.isdigit():
+                os.unlink(name, dir_fd=self.room)
+
+    def end(self):
+        """Removes the folder for files that aren't whole."""
+        self.clear_room()
+        os.rmdir(self.record.room, dir_fd=self.root)
+
+    # ---- files and directories ----
+
+    def change(self, entry, upper, work):
+        """Does `work` with the open directory above a path and the last part of the path."""
+        folder, name = self.folders.above(upper)
+        try:
+            work(folder, name)
+        except PermissionError:
+            # (an earlier start has given the directory its own mode already; it gets it again at the end)
+            if not (entry.parent.ours if entry.parent else self.record.has_root):
+                raise
+            os.chmod(folder, os.stat(folder).st_mode & NO_SET_ID | 0o700)
+            work(folder, name)
+
+    def make_directory(self, entry, upper):
+        """Makes a directory; gives why it isn't made."""
+        if entry.upper is not None:
+            return None
+        entry.upper, standing = upper, self.standing(upper)
+        is_known = entry.path in self.record.known and self.record.known[entry.path].upper == upper
+        if standing is not None and not (is_known and stat.S_ISDIR(standing.st_mode)):
+            return THERE
+        entry.ours = True
+        if standing is not None:
+            return None
+        try:
+            self.record.add(entry, upper)
+            self.change(entry, upper, lambda folder, name: os.mkdir(name, 0o700, dir_fd=folder))
+        except OSError as error:
+            entry.ours = False
+            return refusal(error)
+        return None
+
+    def is_own_file(self, entry, upper, standing):
+        """Whether what stands there is what an earlier start wrote for the entry, untouched since."""
+        known = self.record.known.get(entry.path)
+        same_place = known is not None and known.upper == upper and stat.S_ISREG(standing.st_mode)
+        return same_place and standing.st_mtime_ns == known.time
+
+    def place(self, entry, upper, put):
+        """Puts a file at its path by `put`, which gets the open directory and the name; gives why it isn't put."""
+        standing = self.standing(upper)
+        if standing is not None and not self.is_own_file(entry, upper, standing):
+            return THERE
+        try:
+            self.record.add(entry, upper)
+            self.change(entry, upper, put)
+        except OSError as error:
+            return refusal(error)
+        entry.upper, entry.ours = upper, True
+        return None
+
+    def place_file(self, entry, upper, number):
+        """Gives the file under this number its marks and its name; gives why it doesn't stand there."""
+        written = b"%d" % number
+        self.mark(written, self.room, entry.found)
+        why = self.place(entry, upper, lambda folder, name: os.rename(written, name, src_dir_fd=self.room, dst_dir_fd=folder))
+        if why:
+            os.unlink(written, dir_fd=self.room)
+        return why
+
+    def place_link(self, entry, upper):
+        """Makes a further name of a file that stands there; gives why it isn't made."""
+        if not entry.first.ours:
+            return "another name of a file that was left out"
+        first = Folders(self.root)
+        try:
+            above, old = first.above(entry.first.upper)
+            return self.place(entry, upper, lambda folder, name: link_over(old, above, name, folder))
+        finally:
+            first.close()
+
+    # ---- mode, owner and times ----
+
+    def mark(self, name, folder, found):
+        """Gives a file or directory the owner, mode and times of its lower one; what is refused is counted."""
+        marks = [
+            lambda file: os.geteuid() == 0 and os.chown(file, found.st_uid, found.st_gid),
+            lambda file: os.chmod(file, found.st_mode & NO_SET_ID),
+            lambda file: os.utime(file, ns=(found.st_atime_ns, found.st_mtime_ns)),
+        ]
+        is_refused = False
+        try:
+            file = os.open(name, os.O_RDONLY | os.O_NOFOLLOW | os.O_NONBLOCK, dir_fd=folder)
+        except OSError:
+            self.refused_marks += 1
+            return
+        for mark in marks:
+            try:
+                mark(file)
+            except OSError:
+                is_refused = True
+        self.refused_marks += is_refused
+        os.close(file)
+
+    def mark_directories(self, entries, root_found):
+        """Marks the directories that this program made, the lowest first."""
+        for entry in reversed(entries):
+            if entry.kind is Kind.DIRECTORY and entry.ours:
+                try:
+                    folder, name = self.folders.above(entry.upper)
+                    self.mark(name, folder, entry.found)
+                except OSError:
+                    self.refused_marks += 1
+        if self.record.has_root:
+            self.mark(b".", self.root, root_found)
+
+
+def link_over(old, above, name, folder):
+    """A further name of a file, in place of what stands there."""
+    try:
+        os.unlink(name, dir_fd=folder)
+    except FileNotFoundError:
+        pass
+    os.link(old, name, src_dir_fd=above, dst_dir_fd=folder, follow_symlinks=False)
