@@ -8,6 +8,3 @@ mod shown;
 pub use carrying::carrying_tree;
 pub use listing::listed_paths;
 pub use shown::shown_tree;
-
-#[cfg(test)]
-mod tests;
