@@ -41,6 +41,7 @@ class Entry:
 
     @property
     def is_read(self):
+        """Whether its octets go into a job."""
         return self.kind is Kind.FILE and self.why is None and self.first is None
 
     @property
@@ -55,6 +56,7 @@ class Entry:
 
     @property
     def level(self):
+        """Its level in an image."""
         return self.path.count(b"/") + 1
 
     def is_changed(self, now):
@@ -89,6 +91,7 @@ class Folders:
         return self.at(parent), name
 
     def close(self):
+        """Closes the last directory."""
         os.close(self.last)
 
 
@@ -96,6 +99,7 @@ class Folders:
 
 
 def unreadable(error):
+    """The cause of an entry that can't be read."""
     return f"unreadable: {error.strerror}"
 
 
@@ -213,10 +217,12 @@ class Batch:
         return missing[::-1]
 
     def has_room(self, entry):
+        """Whether the entry fits into the batch; one entry alone always does."""
         fits = not self.own or self.octets + entry.octets <= MOST_BATCH
         return fits and len(self.nodes) + len(self.missing(entry)) <= MOST_ENTRIES
 
     def add(self, entry):
+        """Adds an entry that stands behind the others in preorder."""
         missing = self.missing(entry)
         self.own.append(entry)
         self.nodes += missing
@@ -224,6 +230,7 @@ class Batch:
         self.octets += entry.octets
 
     def halves(self):
+        """Two batches with the same entries."""
         middle = len(self.own) // 2
         return Batch(self.own[:middle]), Batch(self.own[middle:])
 
@@ -261,6 +268,7 @@ class Unread(Exception):
 
 
 def check_unchanged(entry, file):
+    """Unread where the open file is another than the walk found."""
     if entry.is_changed(os.fstat(file)):
         raise Unread(CHANGED)
 
