@@ -7,6 +7,7 @@ import stat
 from collections import Counter
 from dataclasses import dataclass, field
 from enum import Enum, auto
+from typing import NamedTuple
 
 from metadata import METADATA_ROOM, MOST_BODY, MOST_CONTENT, attribute_of, metadata_of
 from texts import MOST_ENTRIES, attribute_field, body_length, entry_head, image_head, job_end, job_head
@@ -24,6 +25,23 @@ class Kind(Enum):
     OTHER = auto()
 
 
+class Found(NamedTuple):
+    """What is kept of a file's status, under the names that it has there."""
+
+    st_ino: int
+    st_size: int
+    st_mtime_ns: int
+    st_ctime_ns: int
+    st_atime_ns: int
+    st_mode: int
+    st_uid: int
+    st_gid: int
+
+    @classmethod
+    def of(cls, status):
+        return cls(*(getattr(status, name) for name in cls._fields))
+
+
 @dataclass(slots=True, eq=False)
 class Entry:
     """One name in the lower tree, as the walk found it."""
@@ -31,7 +49,7 @@ class Entry:
     path: bytes
     parent: "Entry | None"
     kind: Kind
-    found: os.stat_result | None
+    found: Found | None
     why: str | None = None  # why its octets aren't read
     first: "Entry | None" = None  # where a file has several names, the one that was met first
     attribute: int | None = None  # the octets of its attribute
@@ -41,6 +59,7 @@ class Entry:
 
     @property
     def is_read(self):
+        """Whether its octets go into a job."""
         return self.kind is Kind.FILE and self.why is None and self.first is None
 
     @property
@@ -55,6 +74,7 @@ class Entry:
 
     @property
     def level(self):
+        """Its level in an image."""
         return self.path.count(b"/") + 1
 
     def is_changed(self, now):
@@ -89,6 +109,7 @@ class Folders:
         return self.at(parent), name
 
     def close(self):
+        """Closes the last directory."""
         os.close(self.last)
 
 
@@ -96,6 +117,7 @@ class Folders:
 
 
 def unreadable(error):
+    """The cause of an entry that can't be read."""
     return f"unreadable: {error.strerror}"
 
 
@@ -141,18 +163,19 @@ def entry_at(tree, parent, folder, name, device):
     """The entry with this name in an open directory."""
     path = os.path.join(parent.path, name) if parent else name
     try:
-        found = os.stat(name, dir_fd=folder, follow_symlinks=False)
+        status = os.stat(name, dir_fd=folder, follow_symlinks=False)
     except OSError as error:
         return Entry(path, parent, Kind.OTHER, None, unreadable(error))
-    kind = Kind.DIRECTORY if stat.S_ISDIR(found.st_mode) else Kind.FILE if stat.S_ISREG(found.st_mode) else Kind.OTHER
-    if found.st_dev != device:
+    found, mode = Found.of(status), status.st_mode
+    kind = Kind.DIRECTORY if stat.S_ISDIR(mode) else Kind.FILE if stat.S_ISREG(mode) else Kind.OTHER
+    if status.st_dev != device:
         return Entry(path, parent, kind, found, "on another file system")
     if kind is Kind.DIRECTORY:
         return Entry(path, parent, kind, found)
-    if not stat.S_ISREG(found.st_mode):
-        return Entry(path, parent, Kind.OTHER, found, what_else(found.st_mode))
-    entry = Entry(path, parent, Kind.FILE, found)
-    if found.st_nlink > 1:
+    if kind is Kind.OTHER:
+        return Entry(path, parent, kind, found, what_else(mode))
+    entry = Entry(path, parent, kind, found)
+    if status.st_nlink > 1:
         first = tree.firsts.setdefault(found.st_ino, entry)
         entry.first = None if first is entry else first
     if entry.first is None:
@@ -213,10 +236,12 @@ class Batch:
         return missing[::-1]
 
     def has_room(self, entry):
+        """Whether the entry fits into the batch; one entry alone always does."""
         fits = not self.own or self.octets + entry.octets <= MOST_BATCH
         return fits and len(self.nodes) + len(self.missing(entry)) <= MOST_ENTRIES
 
     def add(self, entry):
+        """Adds an entry that stands behind the others in preorder."""
         missing = self.missing(entry)
         self.own.append(entry)
         self.nodes += missing
@@ -224,6 +249,7 @@ class Batch:
         self.octets += entry.octets
 
     def halves(self):
+        """Two batches with the same entries."""
         middle = len(self.own) // 2
         return Batch(self.own[:middle]), Batch(self.own[middle:])
 
@@ -261,6 +287,7 @@ class Unread(Exception):
 
 
 def check_unchanged(entry, file):
+    """Unread where the open file is another than the walk found."""
     if entry.is_changed(os.fstat(file)):
         raise Unread(CHANGED)
 

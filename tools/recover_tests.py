@@ -368,7 +368,7 @@ class Refusals(Recover):
 
 class Again(Recover):
     def test_a_stop_and_a_second_start(self):
-        paths = [f"{SIZES[number % 2]}_{number:04}" for number in range(6000)] + ["z/1"]
+        paths = [f"{SIZES[number % 2]}_{number:04}" for number in range(4500)] + ["z/1"]
         os.makedirs(self.at("lower/z"))
         for path in paths:
             with open(self.at("lower/" + path), "wb") as file:

@@ -4,6 +4,7 @@ import fcntl
 import itertools
 import os
 import re
+import signal
 import subprocess
 import threading
 from binascii import unhexlify
@@ -91,6 +92,15 @@ def content_pieces(stream, digits, size):
         raise Failed
 
 
+def kill_group(process):
+    """Kills a program that leads a group of its own, and the group."""
+    if process.poll() is None:
+        try:
+            os.killpg(process.pid, signal.SIGKILL)
+        except ProcessLookupError:
+            pass
+
+
 class ShowJobs:
     """Runs batches, from several threads at once; `end` stops them all."""
 
@@ -109,13 +119,14 @@ class ShowJobs:
         return self.run(first) + self.run(second)
 
     def end(self):
-        """Ends the programs that run; each `run` ends with Stopped."""
+        """Ends the programs that run, with all that they started; each `run` ends with Stopped."""
         with self.lock:
             self.is_ended = True
             for process in self.running:
-                process.kill()
+                kill_group(process)
 
     def start(self):
+        """Starts the program, with pipes that take a whole piece."""
         with self.lock:
             if self.is_ended:
                 raise Stopped
@@ -141,7 +152,7 @@ class ShowJobs:
         try:
             fault = self.read_text(process.stdout, batch, shown)
         except BaseException:
-            process.kill()
+            kill_group(process)
             raise
         finally:
             process.stdout.close()
@@ -182,6 +193,7 @@ class ShowJobs:
         return None
 
     def take_line(self, line, stream, batch, shown):
+        """Takes one line between the first and the last, and writes its content."""
         if self.is_ended:
             raise Stopped
         found = LINE.match(line)
@@ -218,6 +230,7 @@ class ShowJobs:
             os.close(file)
 
     def write_piece(self, file, piece):
+        """Writes a piece; gives why the target refuses it."""
         try:
             while piece:
                 piece = piece[os.write(file, piece) :]

@@ -47,12 +47,14 @@ class Record:
             self.read_line(line)
 
     def lock(self):
+        """Keeps other starts away from the record."""
         try:
             fcntl.flock(self.file, fcntl.LOCK_EX | fcntl.LOCK_NB)
         except BlockingIOError:
             raise Refused(f"{spelled_path(self.path)}: another start of this program is at work") from None
 
     def read_line(self, line):
+        """Takes a line behind the first."""
         found = RECORDED.fullmatch(line)
         if line == ROOT_LINE:
             self.has_root = True
@@ -103,6 +105,7 @@ class Target:
             self.open()
 
     def open(self):
+        """Opens the folder, from which everything in it is reached."""
         self.root = os.open(self.path, os.O_RDONLY | os.O_DIRECTORY)
         self.folders = Folders(self.root)
 
@@ -143,6 +146,7 @@ class Target:
         self.clear_room()
 
     def make_root(self):
+        """Makes the folder itself."""
         self.record.write(ROOT_LINE)
         try:
             os.mkdir(self.path, 0o700)
