@@ -5,7 +5,7 @@ use Rattle.std.proofs.lemmas.Bool.{cases_lt}
 use Rattle.std.proofs.lemmas.List.{drop-drop}
 use borrow.Rule.Slice.PartMut.{put_mid}
 use Rattle.cipher_model.specs.Blocks.{block_at}
-use Rattle.cbc_mode.specs.Steps.{PutsBlock, IsDone}
+use Rattle.cbc_mode.specs.BlocksInPlace.{PutsBlock, IsDone}
 
 pub puts_block : (xs ys b : List ℕ) (i k : ℕ) → k ≡ 16 → 16 * i + 16 ≤ length xs → length b ≡ 16 → ys ≡ b → PutsBlock xs (put_mid (16 * i) k xs ys) i b
 puts_block xs ys b i k is room long e =

@@ -5,7 +5,7 @@ use Rattle.cipher_model.specs.Aes.{IsBlock, decrypted, encrypted, xor_blocks}
 use Rattle.cipher_model.specs.Blocks.{block_at}
 use Rattle.cipher_model.specs.Cbc.{IsCbc, previous}
 use Rattle.cipher_model.proofs.InverseCipher.{IsBlock-decrypted, add-add, encrypted-decrypted}
-use Rattle.cbc_mode.specs.Steps.{PutsBlock, IsDecryptedTo}
+use Rattle.cbc_mode.specs.BlocksInPlace.{PutsBlock, IsDecryptedTo}
 use Rattle.cbc_mode.proofs.BlockSteps.{block_at-rest, rest_later, rest_more, done_none, done_more}
 
 -- ---- encryption: ps is the text as it was, and now has its first i blocks encrypted, the last of them last

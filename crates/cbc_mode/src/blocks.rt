@@ -2,7 +2,7 @@
 ghost use Rattle.std.specs.Prelude.{◌≡◌, ◌+◌, ◌*◌, ◌≤◌, length};
 ghost use Rattle.cipher_model.specs.Aes.{IsBlock, xor_blocks};
 ghost use Rattle.cipher_model.specs.Blocks.{block_at};
-ghost use Rattle.cbc_mode.specs.Steps.{PutsBlock};
+ghost use Rattle.cbc_mode.specs.BlocksInPlace.{PutsBlock};
 
 use aes_planes::as_block;
 use std::simd::prelude::*;

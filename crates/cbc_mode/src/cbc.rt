@@ -1,7 +1,7 @@
 // Cipher block chaining (SP 800-38A, 6.2).
 ghost use Rattle.std.specs.Prelude.{◌≡◌, ◌+◌, ◌*◌, ◌/◌, ◌%◌, ◌≤◌, List, ℕ, length};
 ghost use Rattle.cipher_model.specs.Cbc.{IsCbc};
-ghost use Rattle.cbc_mode.specs.Steps.{IsDecryptedTo};
+ghost use Rattle.cbc_mode.specs.BlocksInPlace.{IsDecryptedTo};
 
 use crate::blocks::{block_at, put_block, put_sum, sum_of, vector_at};
 use aes_block::RoundKeys;

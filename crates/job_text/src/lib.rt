@@ -4,14 +4,14 @@
 mod fault;
 mod image;
 mod line;
-mod reading;
 mod schedule;
 mod script;
 mod settings;
+mod whole_job;
 
 pub use fault::JobError;
 pub use job_model::{Job, MetaPlace, NameCoding};
-pub use reading::read_job;
+pub use whole_job::read_job;
 
 #[cfg(test)]
 mod tests;

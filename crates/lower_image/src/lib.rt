@@ -3,12 +3,12 @@
 
 mod error;
 mod fields;
+mod image_reader;
+mod image_writer;
 mod path;
-mod reading;
 #[cfg(test)]
 mod tests;
-mod writing;
 
 pub use image_model::{ImageError, ImageFault, ImageKind};
-pub use reading::read_image;
-pub use writing::write_image;
+pub use image_reader::read_image;
+pub use image_writer::write_image;

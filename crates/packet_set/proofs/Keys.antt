@@ -9,7 +9,7 @@ use Rattle.packet_model.specs.PacketSet.{begins_pair, pair_at, pairs_from, SetTa
 use Rattle.packet_model.specs.declared.layout.TheConstants.{SET_OFFSET}
 use Rattle.packet_model.proofs.Sets.{ok}
 use Rattle.packet_model.proofs.Headers.{pair_takes_memory}
-use Rattle.packet_model.proofs.Steps as steps
+use Rattle.packet_model.proofs.PairsInARow as steps
 use Rattle.packet_model.specs.declared.error.MetadataError.{MetadataError}
 use Rattle.packet_model.specs.declared.error.MetadataError.TheVariants as errors
 use Rattle.packet_model.specs.MetadataError.{cause_of}

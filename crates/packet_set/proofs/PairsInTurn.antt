@@ -8,7 +8,7 @@ use Rattle.packet_model.specs.declared.packet.Pair.{Pair}
 use Rattle.answer_model.specs.Answer.{◌>>=◌, FailsAs}
 use Rattle.packet_model.specs.PacketSet.{begins_pair, pair_at, pairs_from, is_among}
 use Rattle.packet_model.proofs.Sets.{ok}
-use Rattle.packet_model.proofs.Steps as steps
+use Rattle.packet_model.proofs.PairsInARow as steps
 use Rattle.packet_model.specs.declared.error.MetadataError.{MetadataError}
 use Rattle.packet_model.specs.declared.error.MetadataError.TheVariants as errors
 use Rattle.packet_model.specs.MetadataError.{cause_of}

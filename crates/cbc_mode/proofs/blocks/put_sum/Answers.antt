@@ -1,5 +1,5 @@
 use Rattle.std.proofs.Common.{List, ℕ, subst}
-use Rattle.cbc_mode.specs.Steps.{PutsBlock}
+use Rattle.cbc_mode.specs.BlocksInPlace.{PutsBlock}
 use Rattle.aes_planes.proofs.States.{sum_of_lanes}
 use Rattle.cbc_mode.proofs.blocks.put_sum.Goals as goal
 

@@ -1,6 +1,6 @@
 use Rattle.std.proofs.Common.{◌≡◌, ◌+◌, ◌/◌, List, ℕ, length, subst, refl, ◌∙◌, arith}
 use Rattle.cipher_model.specs.Aes.{xor_blocks}
-use Rattle.cbc_mode.specs.Steps.{PutsBlock}
+use Rattle.cbc_mode.specs.BlocksInPlace.{PutsBlock}
 use Rattle.cbc_mode.proofs.BlockSteps.{block_at-rest}
 use Rattle.cbc_mode.proofs.CbcSteps.{decrypted_more, decrypted_all}
 use Rattle.cbc_mode.proofs.cbc.cbc_decrypt.Goals as goal

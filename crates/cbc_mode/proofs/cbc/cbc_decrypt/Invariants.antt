@@ -1,4 +1,4 @@
-use Rattle.cbc_mode.specs.Steps.{IsDecryptedTo}
+use Rattle.cbc_mode.specs.BlocksInPlace.{IsDecryptedTo}
 use Rattle.cbc_mode.proofs.cbc.cbc_decrypt.Given as goal
 
 abbrev pub invariant-chain : goal.invariant-chain

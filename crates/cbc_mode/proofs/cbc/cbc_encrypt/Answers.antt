@@ -4,7 +4,7 @@ use Rattle.cipher_model.specs.Aes.{encrypted, xor_blocks}
 use Rattle.cipher_model.specs.Blocks.{block_at}
 use Rattle.cipher_model.proofs.States.{IsBlock-from_each}
 use Rattle.cipher_model.proofs.BlockNumbers.{octets-from, octets-xor}
-use Rattle.cbc_mode.specs.Steps.{PutsBlock}
+use Rattle.cbc_mode.specs.BlocksInPlace.{PutsBlock}
 use Rattle.cbc_mode.proofs.CbcSteps.{IsEncryptedTo, encrypted_none, encrypted_more, encrypted_all}
 use Rattle.cbc_mode.proofs.cbc.cbc_encrypt.Goals as goal
 

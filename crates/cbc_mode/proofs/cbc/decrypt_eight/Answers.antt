@@ -1,6 +1,6 @@
 use Rattle.std.proofs.Common.{◌≡◌, ◌≤◌, ◌+◌, ℕ, List, lit<, arith}
 use Rattle.cipher_model.specs.Blocks.{block_at}
-use Rattle.cbc_mode.specs.Steps.{IsDecryptedTo}
+use Rattle.cbc_mode.specs.BlocksInPlace.{IsDecryptedTo}
 use Rattle.cbc_mode.proofs.CbcSteps.{decrypted_more_by, read_later}
 use Rattle.cbc_mode.proofs.cbc.decrypt_eight.Goals as goal
 

@@ -1,5 +1,5 @@
 use Rattle.std.proofs.Common.{◌≡◌, ◌+◌, ◌*◌, List, ℕ, subst, sym, arith}
-use Rattle.cbc_mode.specs.Steps.{IsDecryptedTo}
+use Rattle.cbc_mode.specs.BlocksInPlace.{IsDecryptedTo}
 use Rattle.cbc_mode.proofs.cbc.decrypt_eights.Goals as goal
 
 pub eights-preserved : goal.eights-preserved

@@ -1,5 +1,5 @@
 use Rattle.std.proofs.Common.{◌*◌}
-use Rattle.cbc_mode.specs.Steps.{IsDecryptedTo}
+use Rattle.cbc_mode.specs.BlocksInPlace.{IsDecryptedTo}
 use Rattle.cbc_mode.proofs.cbc.decrypt_eights.Given as goal
 
 abbrev pub invariant-eights : goal.invariant-eights

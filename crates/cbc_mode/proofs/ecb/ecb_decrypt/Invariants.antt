@@ -1,7 +1,7 @@
 use Rattle.std.proofs.Common.{◌≡◌}
 use Rattle.cipher_model.specs.Aes.{encrypted}
 use Rattle.cipher_model.specs.Blocks.{block_at}
-use Rattle.cbc_mode.specs.Steps.{IsDone}
+use Rattle.cbc_mode.specs.BlocksInPlace.{IsDone}
 use Rattle.cbc_mode.proofs.ecb.ecb_decrypt.Given as goal
 
 abbrev pub invariant-each : goal.invariant-each

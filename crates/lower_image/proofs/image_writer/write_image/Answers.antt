@@ -1,5 +1,5 @@
 use Rattle.image_model.proofs.Image.{AreOctets-image, one_tree}
-use Rattle.lower_image.proofs.writing.write_image.Goals as goal
+use Rattle.lower_image.proofs.image_writer.write_image.Goals as goal
 
 pub returns-clause-octets : goal.returns-clause-octets
 returns-clause-octets c = AreOctets-image c.args.tree.now c.nodes.ensures.lawful

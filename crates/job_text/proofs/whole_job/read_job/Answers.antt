@@ -1,6 +1,6 @@
 use Rattle.std.proofs.Common.{sym, ◌∙◌, arith}
 use Rattle.job_text.proofs.WholeJob.{is_job_text, one_job, not_served, wrong_line}
-use Rattle.job_text.proofs.reading.read_job.Goals as goal
+use Rattle.job_text.proofs.whole_job.read_job.Goals as goal
 
 pub returns-then-is_served_so_far-clause-found : goal.returns-then-is_served_so_far-clause-found
 returns-then-is_served_so_far-clause-found c =

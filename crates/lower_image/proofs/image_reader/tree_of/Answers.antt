@@ -2,7 +2,7 @@ use Rattle.std.proofs.Common.{arith}
 use Rattle.octet_model.proofs.Octets.{AreOctets-from_each}
 use Rattle.image_model.proofs.Image.{nodes_take}
 use Rattle.image_model.proofs.FaultOffsets.{left-within}
-use Rattle.lower_image.proofs.reading.tree_of.Goals as goal
+use Rattle.lower_image.proofs.image_reader.tree_of.Goals as goal
 
 pub from_vec-requires : goal.from_vec-requires
 from_vec-requires c = (nodes_take c.args.octets.now c.in-Ok.nodes.items (AreOctets-from_each c.args.octets.now (λ i. omega (arith, c.type_inv.octets i))) c.in-Ok.ensures).0

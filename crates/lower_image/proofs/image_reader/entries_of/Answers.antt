@@ -5,7 +5,7 @@ use Rattle.image_model.specs.ImageText.{root}
 use Rattle.image_model.specs.ImageReading.{entries_at}
 use Rattle.lower_image.specs.FieldErrors.{behind}
 use Rattle.lower_image.proofs.EntriesInARow.{goes_on, stops, is_done}
-use Rattle.lower_image.proofs.reading.entries_of.Goals as goal
+use Rattle.lower_image.proofs.image_reader.entries_of.Goals as goal
 
 pub returns-in_err-node : goal.returns-in_err-node
 returns-in_err-node c =

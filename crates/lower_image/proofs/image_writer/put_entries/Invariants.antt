@@ -1,7 +1,7 @@
 use Rattle.std.proofs.Common.{◌≡◌, ◌++◌, ◌+◌, ◌≤◌, length, drop}
 use Rattle.lower_model.specs.LowerTree.{AreEntries, root_path}
 use Rattle.image_model.specs.ImageText.{entries}
-use Rattle.lower_image.proofs.writing.put_entries.Given as goal
+use Rattle.lower_image.proofs.image_writer.put_entries.Given as goal
 
 abbrev pub invariant-loop-node : goal.invariant-loop-node
 invariant-loop-node l = record {

@@ -10,7 +10,7 @@ use Rattle.image_model.specs.ImageText.{image}
 use Rattle.image_model.specs.ImageReading.{reading, fault_of}
 use Rattle.octet_model.proofs.Octets.{AreOctets-from_each}
 use Rattle.image_model.proofs.Image.{reading_takes, reading_again}
-use Rattle.lower_image.proofs.reading.read_image.Goals as goal
+use Rattle.lower_image.proofs.image_reader.read_image.Goals as goal
 
 abbrev Gives : Result (List LowerNode) ImageError → Result (List LowerNode) ImageFault → Type 0
 Gives answer read = GivesAs (λ nodes. nodes) fault_of (Unit {0}) answer read
