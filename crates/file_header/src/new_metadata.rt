@@ -61,7 +61,7 @@ fn put_fields(out: &mut Vec<u8>, meta: &NewMeta) -> Result<(), AllocError>
     requires { meta.now.flags < 2 ^ 24 }
     ensures { OnOk result (out.new.items ≡ out.old.items ++ fixed_part (new_header meta.now)) }
 {
-    put_marked(out, meta)?;
+    put_size_and_marker(out, meta)?;
     out.extend_from_slice(&(VERSION_BITS + meta.flags).to_be_bytes())?;
     out.extend_from_slice(&HEADER_EXTENT.to_be_bytes())?;
     out.extend_from_slice(&2u16.to_be_bytes())?;
@@ -69,7 +69,7 @@ fn put_fields(out: &mut Vec<u8>, meta: &NewMeta) -> Result<(), AllocError>
 }
 
 // The size and the marker.
-fn put_marked(out: &mut Vec<u8>, meta: &NewMeta) -> Result<(), AllocError>
+fn put_size_and_marker(out: &mut Vec<u8>, meta: &NewMeta) -> Result<(), AllocError>
     ensures { OnOk result (out.new.items ≡ out.old.items ++ (to_be_bytes w64 meta.now.size ++ (to_be_bytes w32 meta.now.m1 ++ to_be_bytes w32 (bit_xor meta.now.m1 MARKER)))) }
 {
     out.extend_from_slice(&meta.size.to_be_bytes())?;

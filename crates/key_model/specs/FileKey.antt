@@ -5,9 +5,9 @@ use Rattle.std.specs.Prelude.{ℕ, zero, suc, List, [], ◌++◌}
 use Rattle.std.specs.Int.{w32, to_le_bytes}
 use Rattle.rand_chacha.specs.ChaCha.{key_of, word_at}
 
--- the word at a place of a node's stream; 20 rounds are 10 double rounds
+-- the word with this index of a node's stream; 20 rounds are 10 double rounds
 abbrev pub stream_word : List ℕ → ℕ → ℕ → ℕ
-stream_word random node place = word_at 10 (key_of random) node place
+stream_word random node index = word_at 10 (key_of random) node index
 
 -- how many words an AES-128 key has (Nk of FIPS 197, 5)
 abbrev pub aes128_words : ℕ

@@ -8,7 +8,7 @@ use crate::path::{go_behind, path_of_root};
 use lower_tree::{Kind, LowerNode, LowerTree, MOST_ENTRIES, OpenDir};
 use std::alloc::{AllocError, Global};
 
-fn put_sized(out: &mut Vec<u8>, octets: &[u8]) -> Result<(), AllocError>
+fn put_with_length(out: &mut Vec<u8>, octets: &[u8]) -> Result<(), AllocError>
     requires { length octets.now < 2 ^ 32 }
     ensures { OnOk result (out.new.items ≡ out.old.items ++ sized octets.now) }
 {
@@ -28,10 +28,10 @@ fn put_file_octets(out: &mut Vec<u8>, node: &LowerNode) -> Result<(), AllocError
                 None => out.push(0)?,
                 Some(octets) => {
                     out.push(1)?;
-                    put_sized(out, octets.as_slice())?;
+                    put_with_length(out, octets.as_slice())?;
                 }
             }
-            put_sized(out, node.body.as_slice())
+            put_with_length(out, node.body.as_slice())
         }
     }
 }
