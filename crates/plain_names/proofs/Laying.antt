@@ -15,7 +15,7 @@ use Rattle.tree_model.specs.Names.{node_of, RisesBehind}
 use Rattle.tree_model.specs.Walk.{walk, kind_of, kind_at}
 use Rattle.tree_model.specs.IsTree.{IsTree, IsNode, IsDirectory, node_in}
 use Rattle.tree_model.specs.Shown.{shown_places, octets_of}
-use Rattle.tree_model.specs.Listing.{shown_in}
+use Rattle.tree_model.specs.PlainTree.{shown_in}
 use Rattle.plain_names.specs.Laid.{Remaining, octets_kept, entry_node}
 use Rattle.plain_names.proofs.Standing.{names_rise}
 use Rattle.plain_names.proofs.Traced.{Traced, pending, traced_few, traced_more, traced_root}

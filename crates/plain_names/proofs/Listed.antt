@@ -14,7 +14,8 @@ use Rattle.lower_model.specs.declared.node.OpenDir.{OpenDir}
 use Rattle.tree_model.specs.declared.place.Place.{Place}
 use Rattle.tree_model.specs.Names.{RisesBehind}
 use Rattle.tree_model.specs.Shown.{entries_in, place_of, shown_places, shown}
-use Rattle.tree_model.specs.Listing.{shown_in, Lists, ListsTree, numbered}
+use Rattle.tree_model.specs.Listing.{Lists, ListsTree, numbered}
+use Rattle.tree_model.specs.PlainTree.{shown_in}
 use Rattle.tree_model.specs.Listing.Lists.{Done, Next}
 use Rattle.plain_names.proofs.Rising.{put_entries-rising}
 use Rattle.plain_names.proofs.Standing.{Fits, entry_fits, level_here, level_further, names_rise}

@@ -11,10 +11,10 @@ use Rattle.lower_model.specs.declared.node.LowerNode.{LowerNode}
 use Rattle.tree_model.specs.declared.place.Place.{Place}
 use Rattle.tree_model.specs.declared.place.Place.TheVariants.{Dir, Nothing}
 use Rattle.tree_model.specs.Names.{node_of}
-use Rattle.tree_model.specs.PlainTree.{PlainTree, place_with, placed}
+use Rattle.tree_model.specs.PlainTree.{PlainTree, begun, place_with, placed}
 use Rattle.tree_model.specs.IsTree.{IsDirectory, node_in}
 use Rattle.tree_model.specs.Shown.{entries_in, put_entries, place_of, places_of, shown_places}
-use Rattle.plain_tree.specs.Entered.{begun, entered}
+use Rattle.plain_tree.specs.Entered.{entered}
 use Rattle.plain_names.proofs.Rising.{put_entries-append, put_entries-rising}
 use Rattle.plain_names.proofs.Entries.{entries_in-own, entries_in-other, entries_in-none, slice_get-append, slice_get-at, get_append_left}
 use Rattle.plain_names.proofs.Standing.{HasDir, Fits, entry_fits}

@@ -2,29 +2,21 @@
 use Rattle.std.proofs.Common.{◌≡◌, ℕ, true, false, List, [], ◌∷◌, ◌++◌, None, refl, sym, ap, subst, ◌∙◌, append_assoc}
 use Rattle.std.specs.Prelude.{IsTrue}
 use Rattle.std.specs.List.{AllByRecursion}
-use Rattle.std.specs.Ordering.{nat_cmp, is_lt, is_eq, ordering_reverse}
-use Rattle.std.specs.declared.cmp.Ordering.{Ordering}
-use Rattle.std.specs.declared.cmp.Ordering.TheVariants.{Less, Equal, Greater}
+use Rattle.std.specs.Ordering.{nat_cmp, is_eq, ordering_reverse}
+use Rattle.std.specs.declared.cmp.Ordering.TheVariants.{Greater}
 use Rattle.std.specs.Cmp.Lexicographic.{slice_cmp, nat_list_cmp_total}
 use Rattle.std.proofs.lemmas.List.{append-nil}
 use Rattle.lower_model.specs.Name.{is_name}
 use Rattle.lower_model.specs.LowerTree.{comes_before}
 use Rattle.tree_model.specs.Names.{is_named, node_of, put_entry, RisesBehind}
 use Rattle.tree_model.specs.Shown.{put_entries}
-
-less : (o : Ordering) → is_lt o ≡ true → o ≡ Less
-less Less h = refl
-less Equal h = absurd cc
-less Greater h = absurd cc
+use Rattle.tree_model.proofs.NameLemmas.{before_less, before_trans}
 
 greater : (a b : List ℕ) → IsTrue (comes_before a b) → slice_cmp nat_cmp b a ≡ Greater
-greater a b h = nat_list_cmp_total.antisymm b a ∙ ap ordering_reverse (less (slice_cmp nat_cmp a b) h)
-
-before_trans : (a b c : List ℕ) → IsTrue (comes_before a b) → IsTrue (comes_before b c) → IsTrue (comes_before a c)
-before_trans a b c p q = ap is_lt (nat_list_cmp_total.trans a b c (less (slice_cmp nat_cmp a b) p) (less (slice_cmp nat_cmp b c) q))
+greater a b h = nat_list_cmp_total.antisymm b a ∙ ap ordering_reverse (before_less a b h)
 
 is_named-before : (a b : List ℕ) → IsTrue (comes_before a b) → is_named a b ≡ false
-is_named-before a b h = ap is_eq (less (slice_cmp nat_cmp a b) h)
+is_named-before a b h = ap is_eq (before_less a b h)
 
 is_named-behind : (a b : List ℕ) → IsTrue (comes_before a b) → is_named b a ≡ false
 is_named-behind a b h = ap is_eq (greater a b h)

@@ -9,13 +9,13 @@ use lower_model::{Items, Kind, LowerNode, LowerTree};
 use plain_tree::Tree;
 use std::alloc::{AllocError, Global};
 use std::marker::Model;
-use tree_model::{Directory, Name, Place};
+use tree_model::{Directory, Entry, Name, Place};
 
 /// A directory whose entries are being laid out: its number, and the entries that are left.
 #[derive(Drop)]
 struct Open<'a> {
     number: u32,
-    rest: &'a [(Name, u32)],
+    rest: &'a [Entry],
 }
 
 impl<'a> Model for Open<'a> {
@@ -43,7 +43,7 @@ impl<'a> Open<'a> {
     {
         let (entry, rest) = self.rest.split_first()?;
         self.rest = rest;
-        Some((&entry.0, entry.1))
+        Some((entry.name(), entry.node()))
     }
 }
 

@@ -1,5 +1,5 @@
 -- A tree with one more entry, which leads to a new node, is a tree.
-use Rattle.std.proofs.Common.{◌≡◌, ◌≢◌, ℕ, suc, zero, ◌<◌, ◌≤◌, ◌+◌, ◌-◌, cond, ◌⊎◌, inl, inr, List, [], ◌∷◌, ◌++◌, length, Option, Some, None, Result, Ok, Err, refl, sym, ap, subst, ◌∙◌, arith, length-append}
+use Rattle.std.proofs.Common.{◌≡◌, ◌≢◌, ℕ, suc, zero, ◌<◌, ◌≤◌, ◌+◌, ◌-◌, cond, ◌⊎◌, inl, inr, List, [], ◌∷◌, ◌++◌, length, Option, Some, None, Ok, refl, sym, ap, subst, ◌∙◌, arith, length-append}
 use Rattle.std.specs.Prelude.{◌==◌, IsTrue, replicate, slice_get, slice_set}
 use Rattle.std.proofs.lemmas.List.{length-set, length-replicate, get_or-replicate, replicate-append-replicate}
 use Rattle.std.proofs.lemmas.Option.{slice_get_within, slice_get_past, get_or_from_slice_get}
@@ -12,27 +12,21 @@ use Rattle.tree_model.specs.declared.place.Directory.{Directory}
 use Rattle.tree_model.specs.declared.place.Place.{Place}
 use Rattle.tree_model.specs.declared.place.Place.TheVariants.{Dir, File, Nothing}
 use Rattle.tree_model.specs.Names.{is_named, node_of, put_entry, RisesBehind}
-use Rattle.tree_model.specs.declared.call.TreeRefusal.{TreeRefusal}
-use Rattle.tree_model.specs.Walk.{◌>>=◌, found, entry_of, walk}
-use Rattle.tree_model.specs.PlainTree.{most_nodes, empty_directory, place_with, placed, added}
+use Rattle.tree_model.specs.Walk.{walk}
+use Rattle.tree_model.specs.PlainTree.{most_nodes, empty_directory, begun, place_with, placed, added}
 use Rattle.tree_model.specs.IsTree.{IsTree, IsDirectory, IsNode, node_in}
-use Rattle.tree_model.proofs.NameLemmas.{is_named_is, is_named_same, node_of-put_entry, comes_behind_nothing, RisesBehind-put_entry}
-use Rattle.plain_tree.specs.Entered.{begun, TakesName}
+use Rattle.tree_model.proofs.NameLemmas.{is_named_is, is_named_same, entry_at-put_entry, comes_behind_nothing, RisesBehind-put_entry}
+use Rattle.tree_model.proofs.Walks.{node_from_directory, shows_in_directory, walk_stays, walk_on, step_first}
+use Rattle.plain_tree.specs.Entered.{TakesName}
 use Rattle.plain_tree.proofs.Places.{slice_get-set, slice_get-push}
 
 -- ---- places, case by case
 
-the_directory : (place : Option Place) → IsDirectory place → (d : Directory) × (place ≡ Some (Dir d))
+pub the_directory : (place : Option Place) → IsDirectory place → (d : Directory) × (place ≡ Some (Dir d))
 the_directory (Some (Dir d)) h = (d, refl)
 the_directory (Some File) h = absurd h
 the_directory (Some Nothing) h = absurd h
 the_directory None h = absurd h
-
-node_from_directory : (place : Option Place) → IsDirectory place → IsNode place
-node_from_directory (Some (Dir d)) h = tt
-node_from_directory (Some File) h = absurd h
-node_from_directory (Some Nothing) h = absurd h
-node_from_directory None h = absurd h
 
 is_node_begun : (kind : Kind) → IsNode (Some (begun kind))
 is_node_begun kinds.Dir = tt
@@ -47,44 +41,6 @@ begun_rises kinds.Dir d is =
     let same : empty_directory ≡ d = cc in
     subst (λ (e : Directory). RisesBehind [] e.shown) same tt
 begun_rises kinds.File d is = absurd cc
-
-node_from_entry : (place : Option Place) (x : List ℕ) (n : ℕ) → node_in place x ≡ Some n → IsNode place
-node_from_entry (Some (Dir d)) x n is = tt
-node_from_entry (Some File) x n is = absurd cc
-node_from_entry (Some Nothing) x n is = absurd cc
-node_from_entry None x n is = absurd cc
-
--- ---- a name on a walk leads to the node of its entry
-
-found_node : (node : Option ℕ) (n : ℕ) → found node ≡ Ok n → node ≡ Some n
-found_node (Some m) n is = cc
-found_node None n is = absurd cc
-
-entry_node : (place : Option Place) (x : List ℕ) (n : ℕ) → entry_of place x ≡ Ok n → node_in place x ≡ Some n
-entry_node (Some (Dir d)) x n is = found_node (node_of x d.shown) n is
-entry_node (Some File) x n is = absurd cc
-entry_node (Some Nothing) x n is = absurd cc
-entry_node None x n is = absurd cc
-
-node_entry : (place : Option Place) (x : List ℕ) (n : ℕ) → node_in place x ≡ Some n → entry_of place x ≡ Ok n
-node_entry (Some (Dir d)) x n is = ap found is
-node_entry (Some File) x n is = absurd cc
-node_entry (Some Nothing) x n is = absurd cc
-node_entry None x n is = absurd cc
-
--- where a walk leads somewhere, its first entry does
-first_step : (entry : Result ℕ TreeRefusal) (rest : ℕ → Result ℕ TreeRefusal) (n : ℕ) → (entry >>= rest) ≡ Ok n → (m : ℕ) × (entry ≡ Ok m) × (rest m ≡ Ok n)
-first_step (Ok m) rest n is = (m, refl, is)
-first_step (Err refusal) rest n is = absurd cc
-
--- a walk that takes one more step
-walk_on : (places : List Place) (at k n : ℕ) (path : List (List ℕ)) (x : List ℕ) → walk places at path ≡ Ok k → node_in (slice_get places k) x ≡ Some n → walk places at (path ++ x ∷ []) ≡ Ok n
-walk_on places at k n [] x here is =
-    let same : at ≡ k = cc in
-    ap (λ (r : Result ℕ TreeRefusal). r >>= λ m. walk places m []) (ap (λ (j : ℕ). entry_of (slice_get places j) x) same ∙ node_entry (slice_get places k) x n is)
-walk_on places at k n (y ∷ path) x here is =
-    let first = first_step (entry_of (slice_get places at) y) (λ m. walk places m path) k here in
-    ap (λ (r : Result ℕ TreeRefusal). r >>= λ m. walk places m (path ++ x ∷ [])) first.1 ∙ walk_on places first.0 k n path x first.2 is
 
 -- ---- the change
 
@@ -137,7 +93,7 @@ module _ {old new : List Place} {at : ℕ} {d : Directory} {name : List ℕ} {no
       elim (cases_place k) [
         | inl p ↦ (let none : node_in (slice_get new k) x ≡ None = ap (λ (o : Option Place). node_in o x) p.1 ∙ node_in-begun kind x in absurd cc)
         | inr q ↦ elim q [
-          | inl p ↦ (let found : node_in (slice_get new k) x ≡ cond (is_named name x) (Some node) (node_of x d.shown) = ap (λ (o : Option Place). node_in o x) p.1 ∙ node_of-put_entry x d.shown name node in
+          | inl p ↦ (let found : node_in (slice_get new k) x ≡ cond (is_named name x) (Some node) (node_of x d.shown) = ap (λ (o : Option Place). node_in o x) p.1 ∙ entry_at-put_entry x d.shown name node in
               elim (cases_Bool (is_named name x)) [
                 | inl h ↦ (let here : node_in (slice_get new k) x ≡ Some node = rw h at found in let same : n ≡ node = cc in inl (p.0, sym (is_named_is name x h), same))
                 | inr h ↦ (let here : node_in (slice_get new k) x ≡ node_of x d.shown = rw h at found in
@@ -205,9 +161,9 @@ module _ {old new : List Place} {at : ℕ} {d : Directory} {name : List ℕ} {no
   entry_stays : (k : ℕ) (x : List ℕ) (n : ℕ) → node_in (slice_get old k) x ≡ Some n → node_in (slice_get new k) x ≡ Some n
   entry_stays k x n is =
       elim (cases_place k) [
-        | inl p ↦ absurd (s.fresh (subst (λ (j : ℕ). IsNode (slice_get old j)) p.0 (node_from_entry (slice_get old k) x n is)))
+        | inl p ↦ absurd (s.fresh (subst (λ (j : ℕ). IsNode (slice_get old j)) p.0 (node_from_directory (slice_get old k) (shows_in_directory (slice_get old k) x n is))))
         | inr q ↦ elim q [
-          | inl p ↦ (let found : node_in (slice_get new k) x ≡ cond (is_named name x) (Some node) (node_of x d.shown) = ap (λ (o : Option Place). node_in o x) p.1 ∙ node_of-put_entry x d.shown name node in
+          | inl p ↦ (let found : node_in (slice_get new k) x ≡ cond (is_named name x) (Some node) (node_of x d.shown) = ap (λ (o : Option Place). node_in o x) p.1 ∙ entry_at-put_entry x d.shown name node in
               let shown : node_of x d.shown ≡ Some n = ap (λ (o : Option Place). node_in o x) (sym (ap (slice_get old) p.0 ∙ s.directory)) ∙ is in
               elim (cases_Bool (is_named name x)) [
                 | inl h ↦ (let same : x ≡ name = sym (is_named_is name x h) in
@@ -218,13 +174,6 @@ module _ {old new : List Place} {at : ℕ} {d : Directory} {name : List ℕ} {no
         ]
       ]
 
-  walk_stays : (at n : ℕ) (path : List (List ℕ)) → walk old at path ≡ Ok n → walk new at path ≡ Ok n
-  walk_stays at n [] is = is
-  walk_stays at n (x ∷ path) is =
-      let first = first_step (entry_of (slice_get old at) x) (λ m. walk old m path) n is in
-      let entry = node_entry (slice_get new at) x first.0 (entry_stays at x first.0 (entry_node (slice_get old at) x first.0 first.1)) in
-      ap (λ (r : Result ℕ TreeRefusal). r >>= λ m. walk new m path) entry ∙ walk_stays first.0 n path first.2
-
   at_directory : slice_get new at ≡ Some (Dir grown)
   at_directory =
       elim (eqb_tells at node) [
@@ -233,16 +182,17 @@ module _ {old new : List Place} {at : ℕ} {d : Directory} {name : List ℕ} {no
       ]
 
   new_shown : node_in (slice_get new at) name ≡ Some node
-  new_shown = ap (λ (o : Option Place). node_in o name) at_directory ∙ node_of-put_entry name d.shown name node ∙ rw (is_named_same name) refl
+  new_shown = ap (λ (o : Option Place). node_in o name) at_directory ∙ entry_at-put_entry name d.shown name node ∙ rw (is_named_same name) refl
 
   reached_stays : (n : ℕ) → IsNode (slice_get new n) → (path : List (List ℕ)) × (walk new 0 path ≡ Ok n)
   reached_stays n h =
+      let stays = walk_stays old new entry_stays in
       let directory = tree.reached at (subst IsNode (sym s.directory) tt) in
       elim (cases_place n) [
-        | inl p ↦ (directory.0 ++ name ∷ [], walk_on new 0 at n directory.0 name (walk_stays 0 at directory.0 directory.1) (new_shown ∙ ap (λ (m : ℕ). Some m) (sym p.0)))
+        | inl p ↦ (directory.0 ++ name ∷ [], walk_on new 0 at n directory.0 (name ∷ []) (stays 0 at directory.0 directory.1) (step_first new at n name [] (new_shown ∙ ap (λ (m : ℕ). Some m) (sym p.0))))
         | inr q ↦ elim q [
-          | inl p ↦ (let here = tree.reached n (subst (λ (k : ℕ). IsNode (slice_get old k)) (sym p.0) (subst IsNode (sym s.directory) tt)) in (here.0, walk_stays 0 n here.0 here.1))
-          | inr p ↦ (let here = tree.reached n (subst IsNode p h) in (here.0, walk_stays 0 n here.0 here.1))
+          | inl p ↦ (let here = tree.reached n (subst (λ (k : ℕ). IsNode (slice_get old k)) (sym p.0) (subst IsNode (sym s.directory) tt)) in (here.0, stays 0 n here.0 here.1))
+          | inr p ↦ (let here = tree.reached n (subst IsNode p h) in (here.0, stays 0 n here.0 here.1))
         ]
       ]
 

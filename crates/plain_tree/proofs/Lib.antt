@@ -1,3 +1,4 @@
 pub mod Places
 pub mod IsTreeLemmas
-pub mod Steps
+pub mod Changes
+pub mod Inversion

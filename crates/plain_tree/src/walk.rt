@@ -1,23 +1,35 @@
-ghost use Rattle.std.specs.Prelude.{◌≡◌, slice_get};
+ghost use Rattle.std.specs.Prelude.{◌≡◌, Ok, Err, IfOk, IfErr, slice_get};
 ghost use Rattle.tree_model.specs.PlainTree.{kind_or_file};
-ghost use Rattle.tree_model.specs.Walk.{walk, entry_of, kind_of};
+ghost use Rattle.tree_model.specs.Walk.{dir_of, target_in, walk, entry_of, kind_of, comes_by};
 
 use lower_model::Kind;
-use tree_model::{Parts, Place, TreeRefusal};
+use tree_model::{Directory, Parts, Place, TreeRefusal};
 
-/// The node of a name in the directory at a number.
-fn entry(places: &[Place], at: u32, name: &[u8]) -> Result<u32, TreeRefusal>
-    ensures { result ≡ entry_of (slice_get places.now at) name.now }
+/// The directory at a number.
+pub fn directory(places: &[Place], at: u32) -> Result<&Directory, TreeRefusal>
+    ensures ok { IfOk result (λ d. dir_of (slice_get places.now at) ≡ Ok d.now) }
+    ensures err { IfErr result (λ refusal. dir_of (slice_get places.now at) ≡ Err refusal) }
 {
     match places.get(at as usize) {
-        Some(Place::Dir(d)) => match d.shown.get(name) {
-            Some(node) => Ok(node),
-            None => Err(TreeRefusal::NotFound),
-        },
+        Some(Place::Dir(d)) => Ok(d),
         Some(Place::File) => Err(TreeRefusal::NotDir),
         Some(Place::Nothing) => Err(TreeRefusal::NotFound),
         None => Err(TreeRefusal::NotFound),
     }
+}
+
+/// What has a name in the directory at a number.
+pub fn target_in(places: &[Place], at: u32, name: &[u8]) -> Result<Option<u32>, TreeRefusal>
+    ensures { result ≡ target_in (slice_get places.now at) name.now }
+{
+    Ok(directory(places, at)?.shown.get(name))
+}
+
+/// The node of a name in the directory at a number.
+pub fn entry(places: &[Place], at: u32, name: &[u8]) -> Result<u32, TreeRefusal>
+    ensures { result ≡ entry_of (slice_get places.now at) name.now }
+{
+    target_in(places, at, name)?.ok_or(TreeRefusal::NotFound)
 }
 
 /// The node that these names lead to from the root.
@@ -39,8 +51,25 @@ pub fn kind(places: &[Place], node: u32) -> Kind
 {
     match places.get(node as usize) {
         Some(Place::Dir(_)) => Kind::Dir,
-        Some(Place::File) => Kind::File,
-        Some(Place::Nothing) => Kind::File,
-        None => Kind::File,
+        _ => Kind::File,
     }
+}
+
+/// Whether these names lead by a node from the root on, their end included.
+pub fn comes_by(places: &[Place], node: u32, parts: Parts<'_>) -> bool
+    ensures { result ≡ comes_by places.now node 0 parts.entry }
+{
+    let mut at = 0u32;
+    let mut rest = parts;
+    while let Some((name, behind)) = rest.split_first() {
+        if at == node {
+            return true;
+        }
+        match entry(places, at, name) {
+            Ok(next) => at = next,
+            Err(_) => return false,
+        }
+        rest = behind;
+    }
+    at == node
 }

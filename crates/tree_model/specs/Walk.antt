@@ -1,5 +1,5 @@
 -- What stands at the numbers of a plain tree, and which node a path leads to.
-use Rattle.std.specs.Prelude.{ℕ, ◌-◌, List, [], ◌∷◌, length, take, Option, Some, None, Result, Ok, Err, Bool, true, false, slice_get}
+use Rattle.std.specs.Prelude.{ℕ, ◌-◌, List, [], ◌∷◌, length, take, Option, Some, None, Result, Ok, Err, Bool, true, false, slice_get, ◌||◌, ◌==◌}
 use Rattle.lower_model.specs.declared.kind.Kind.{Kind}
 use Rattle.lower_model.specs.declared.kind.Kind.TheVariants as kinds
 use Rattle.tree_model.specs.declared.call.TreeRefusal.{TreeRefusal}
@@ -30,14 +30,27 @@ abbrev pub found : Option ℕ → Result ℕ TreeRefusal
 found (Some n) = Ok n
 found None = Err NotFound
 
--- the node of a name, which is looked up only in a directory
+-- what has a name, which is looked up only in a directory
+abbrev pub target_in : Option Place → List ℕ → Result (Option ℕ) TreeRefusal
+target_in place name = dir_of place >>= λ d. Ok (node_of name d.shown)
+
+-- the node of a name that is there
 abbrev pub entry_of : Option Place → List ℕ → Result ℕ TreeRefusal
-entry_of place name = dir_of place >>= λ d. found (node_of name d.shown)
+entry_of place name = target_in place name >>= found
 
 -- the node that these names lead to, from a node on
 abbrev pub walk : List Place → ℕ → List (List ℕ) → Result ℕ TreeRefusal
 walk places at [] = Ok at
 walk places at (name ∷ names) = entry_of (slice_get places at) name >>= λ n. walk places n names
+
+-- whether a walk comes by a node, its end included
+abbrev pub holds_then : (ℕ → Bool) → Result ℕ TreeRefusal → Bool
+holds_then test (Ok n) = test n
+holds_then test (Err e) = false
+
+abbrev pub comes_by : List Place → ℕ → ℕ → List (List ℕ) → Bool
+comes_by places node at [] = at == node
+comes_by places node at (name ∷ names) = (at == node) || holds_then (λ n. comes_by places node n names) (entry_of (slice_get places at) name)
 
 -- all names but the last, and the last, where there is one
 abbrev pub front : List (List ℕ) → List (List ℕ)

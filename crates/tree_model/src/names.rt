@@ -1,18 +1,19 @@
-ghost use Rattle.std.specs.Prelude.{◌≡◌, [], OnOk, OnErr, length, IsTrue};
+ghost use Rattle.std.specs.Prelude.{◌≡◌, ◌<◌, [], OnOk, OnErr, length, vec_len, vec_capacity, IsTrue};
 ghost use Rattle.std.specs.List.Sorted.{IsBinarySearchResult, IsSearchInRange};
 ghost use Rattle.std.specs.Ordering.{nat_cmp};
 ghost use Rattle.std.specs.Cmp.Lexicographic.{slice_cmp};
 ghost use Rattle.lower_model.specs.Name.{is_name};
-ghost use Rattle.tree_model.specs.Names.{node_of, put_entry, RisesBehind};
+ghost use Rattle.tree_model.specs.Names.{node_of, put_entry, without, RisesBehind};
 
-use crate::Name;
+use crate::{Entry, EntryName, Name, Spare};
 use std::alloc::{AllocError, Global};
 use std::marker::Model;
+use std::mem::swap;
 
 /// Names in octet order, each with its node.
 #[derive(Debug, Drop)]
 pub struct Names {
-    entries: Vec<(Name, u32)>,
+    entries: Vec<Entry>,
 }
 
 impl Model for Names {
@@ -27,11 +28,11 @@ impl Model for Names {
 }
 
 /// Where a name stands, or would stand.
-fn place(entries: &[(Name, u32)], name: &[u8]) -> Result<usize, usize>
+fn place(entries: &[Entry], name: &[u8]) -> Result<usize, usize>
     ensures bound { IsSearchInRange result (length entries.now) }
     ensures place { IsBinarySearchResult (λ e. slice_cmp nat_cmp e.0 name.now) entries.now result }
 {
-    entries.binary_search_by(|entry| entry.0.octets().cmp(name))
+    entries.binary_search_by(|entry| entry.name().octets().cmp(name))
 }
 
 impl Names {
@@ -49,13 +50,13 @@ impl Names {
         ensures { result ≡ node_of name.now self.now }
     {
         match place(&self.entries, name) {
-            Ok(at) => Some(self.entries[at].1),
+            Ok(at) => Some(self.entries[at].node()),
             Err(_) => None,
         }
     }
 
     /// The names in octet order, each with its node.
-    pub fn entries(&self) -> &[(Name, u32)]
+    pub fn entries(&self) -> &[Entry]
         ensures entries { result.now ≡ self.now }
         ensures rising { RisesBehind [] self.now }
     {
@@ -69,9 +70,50 @@ impl Names {
         ensures lawful { IsTrue (is_name name) }
     {
         match place(&self.entries, name.octets()) {
-            Ok(at) => self.entries[at].1 = node,
-            Err(at) => self.entries.insert(at, (name, node))?,
+            Ok(at) => self.entries[at].set_node(node),
+            Err(at) => {
+                let name = EntryName::new(*self.entries.allocator(), name)?;
+                self.entries.insert(at, name.entry(node))?;
+            }
         }
         Ok(())
+    }
+
+    /// Puts a name to its place, in the room that is spare where its own is full. It takes no memory.
+    pub fn insert_with(&mut self, name: EntryName, node: u32, spare: &mut Spare)
+        requires { length self.old < spare.old }
+        ensures names { self.new ≡ put_entry self.old name node }
+        ensures lawful { IsTrue (is_name name) }
+    {
+        match place(&self.entries, name.octets()) {
+            Ok(at) => self.entries[at].set_node(node),
+            Err(at) => {
+                take_room(&mut self.entries, &mut spare.entries);
+                self.entries.insert(at, name.entry(node)).unwrap();
+            }
+        }
+    }
+
+    /// Takes a name out, where it is there. It takes no memory.
+    pub fn remove(&mut self, name: &[u8])
+        ensures { self.new ≡ without name.now self.old }
+    {
+        if let Ok(at) = place(&self.entries, name) {
+            let _gone = self.entries.remove(at);
+        }
+    }
+}
+
+/// Room for one entry more: its own, or the spare one, to which the entries go.
+fn take_room(entries: &mut Vec<Entry>, spare: &mut Vec<Entry>)
+    requires room { vec_len entries.old < vec_capacity spare.old }
+    requires empty { spare.old.items ≡ [] }
+    ensures items { entries.new.items ≡ entries.old.items }
+    ensures room { vec_len entries.new < vec_capacity entries.new }
+    ensures empty { spare.new.items ≡ [] }
+{
+    if entries.len() == entries.capacity() {
+        swap(entries, spare);
+        entries.append(spare).unwrap();
     }
 }
