@@ -5,12 +5,12 @@ use Rattle.std.specs.Fmt.{digits}
 use Rattle.hex.specs.Hex.{encode_with}
 use Rattle.lower_model.specs.declared.kind.Kind.TheVariants.{Dir}
 use Rattle.lower_model.specs.declared.node.LowerNode.{LowerNode}
-use Rattle.session_model.specs.declared.op.Op.{Op}
-use Rattle.session_model.specs.declared.op.Op.TheVariants as ops
+use Rattle.script_model.specs.declared.op.Op.{Op}
+use Rattle.script_model.specs.declared.op.Op.TheVariants as ops
 use Rattle.job_model.specs.declared.job.Job.{Job}
 use Rattle.lower_model.specs.declared.meta_place.MetaPlace.TheVariants.{Header}
 use Rattle.job_model.specs.declared.job.NameCoding.TheVariants.{Plain}
-use Rattle.job_model.specs.JobText.{job_text, script_text}
+use Rattle.job_model.specs.JobText.{job_text}
 
 abbrev root : LowerNode
 root = record { parent = 0; kind = Dir; name = []; attribute = None; body = [] }
@@ -41,10 +41,6 @@ no_operations = refl
 
 abbrev make_and_list : List Op
 make_and_list = ops.Mkdir (codes "a" ∷ []) ∷ ops.List [] ∷ []
-
-two_lines : script_text make_and_list ≡ codes "script 2\nmkdir /a\nlist /\n"
-unfolding digits
-two_lines = refl
 
 two_operations : job_text (job_of make_and_list) ≡ settings ++ empty_image ++ codes "sessions 1\nscript 2\nmkdir /a\nlist /\nschedule\nend\n"
 unfolding digits encode_with

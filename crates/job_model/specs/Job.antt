@@ -3,20 +3,10 @@ use Rattle.std.specs.Prelude.{ℕ, ◌≡◌, ◌<◌, ◌≤◌, List, length}
 use Rattle.std.specs.List.{AllByRecursion}
 use Rattle.octet_model.specs.Octets.{AreOctets, HasOctets}
 use Rattle.lower_model.specs.LowerTree.{IsLowerTree}
-use Rattle.tree_model.specs.Path.{IsPath}
-use Rattle.session_model.specs.declared.op.Op.{Op}
-use Rattle.session_model.specs.declared.op.Op.TheVariants.{Mkdir, List as ListOp}
-use Rattle.job_model.specs.declared.limits.TheConstants.{LONGEST_PASSPHRASE, MOST_SESSIONS, MOST_OPERATIONS, MOST_ITEMS}
+use Rattle.script_model.specs.Script.{IsScript, IsTreeScript}
+use Rattle.job_model.specs.declared.limits.TheConstants.{LONGEST_PASSPHRASE, MOST_SESSIONS, MOST_ITEMS}
 use Rattle.job_model.specs.declared.job.Job.{Job}
 use Rattle.job_model.specs.declared.job.NameCoding.TheVariants.{Plain}
-
-abbrev pub IsOp : Op → Type 0
-IsOp (Mkdir path) = IsPath path
-IsOp (ListOp path) = IsPath path
-
-pub record IsScript (script : List Op) : Type 0 where
-  pub few : length script ≤ MOST_OPERATIONS
-  pub ops : AllByRecursion IsOp script
 
 pub record IsPassphrase (passphrase : List ℕ) : Type 0 where
   pub some : 1 ≤ length passphrase
@@ -42,3 +32,4 @@ pub record IsJob (job : Job) : Type 0 where
 pub record IsServedSoFar (job : Job) : Type 0 where
   pub plain_names : job.names ≡ Plain
   pub one_session : length job.scripts ≡ 1
+  pub tree_calls : AllByRecursion IsTreeScript job.scripts

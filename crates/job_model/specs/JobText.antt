@@ -2,9 +2,8 @@
 use Rattle.std.specs.Prelude.{ℕ, ◌≡◌, ◌≤◌, List, [], ◌∷◌, ◌++◌, length, map, codes}
 use Rattle.std.specs.List.{flat_map}
 use Rattle.image_model.specs.ImageText.{image}
-use Rattle.text_model.specs.Line.{line, number, hex, path}
-use Rattle.session_model.specs.declared.op.Op.{Op}
-use Rattle.session_model.specs.declared.op.Op.TheVariants.{Mkdir, List as ListOp}
+use Rattle.text_model.specs.Line.{line, number, hex}
+use Rattle.script_model.specs.ScriptText.{script_text}
 use Rattle.job_model.specs.declared.limits.TheConstants.{MOST_OCTETS}
 use Rattle.job_model.specs.declared.job.Job.{Job}
 use Rattle.lower_model.specs.declared.meta_place.MetaPlace.{MetaPlace}
@@ -12,17 +11,6 @@ use Rattle.lower_model.specs.declared.meta_place.MetaPlace.TheVariants.{Header, 
 use Rattle.job_model.specs.declared.job.NameCoding.{NameCoding}
 use Rattle.job_model.specs.declared.job.NameCoding.TheVariants.{Plain, Tag70}
 use Rattle.job_model.specs.Job.{IsJob, IsServedSoFar}
-
--- an operation's word and its fields
-abbrev pub op_fields : Op → List (List ℕ)
-op_fields (Mkdir p) = codes "mkdir" ∷ path p ∷ []
-op_fields (ListOp p) = codes "list" ∷ path p ∷ []
-
-abbrev pub op_line : Op → List ℕ
-op_line op = line (op_fields op)
-
-abbrev pub script_text : List Op → List ℕ
-script_text ops = line (codes "script" ∷ number (length ops) ∷ []) ++ flat_map op_line ops
 
 abbrev pub coding_word : NameCoding → List ℕ
 coding_word Plain = codes "plain"

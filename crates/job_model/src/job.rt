@@ -1,7 +1,7 @@
 ghost use Rattle.std.specs.Prelude.{Some, codes};
 
 use lower_model::{Items, LowerTree, MetaPlace};
-use session_model::Op;
+use script_model::Op;
 use std::fmt::{self, Debug, Formatter, Write};
 
 /// How a mount writes new names.

@@ -7,9 +7,6 @@ pub const LONGEST_PASSPHRASE: usize = 64;
 /// The most sessions of a job.
 pub const MOST_SESSIONS: usize = 16;
 
-/// The most operations of a session's script.
-pub const MOST_OPERATIONS: usize = 65_536;
-
 /// The most items of a schedule.
 pub const MOST_ITEMS: usize = 1_048_576;
 

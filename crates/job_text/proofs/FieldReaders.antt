@@ -1,8 +1,7 @@
 -- The fields of a job are read as they are spelled.
-use Rattle.std.proofs.Common.{◌≡◌, ℕ, ◌<◌, ◌≤◌, ◌^◌, true, cond, leb, ltb, List, [], ◌∷◌, ◌++◌, length, map, codes, Option, Some, None, refl, ap, subst, ◌∙◌, arith, inl, inr}
-use Rattle.std.specs.Prelude.{◌&&◌, ◌==◌, option_and_then}
-use Rattle.std.specs.List.{list_all, slice_split, join_with_byte, flat_map, AllByRecursion}
-use Rattle.std.specs.Option.{option_map}
+use Rattle.std.proofs.Common.{◌≡◌, ℕ, ◌<◌, ◌≤◌, ◌^◌, true, cond, leb, ltb, List, [], ◌∷◌, length, map, codes, Option, Some, None, refl, ap, subst, ◌∙◌, arith, inl, inr}
+use Rattle.std.specs.Prelude.{◌&&◌, ◌==◌}
+use Rattle.std.specs.List.{list_all, slice_split, join_with_byte, AllByRecursion}
 use Rattle.std.specs.Str.{bytes_eq}
 use Rattle.std.specs.Fmt.{decimal}
 use Rattle.std.proofs.lemmas.Bool.{and_parts, eqb-true, leb-true, le-leb, ltb-true, lt-ltb}
@@ -11,29 +10,23 @@ use Rattle.std.proofs.lemmas.Fmt.{digits_decimal}
 use Rattle.std.proofs.lemmas.Option.{none-some, same_Some}
 use Rattle.std.proofs.lemmas.Slice.Eq.{bytes_eq-Decides}
 use Rattle.octet_model.specs.Octets.{AreOctets}
-use Rattle.text_model.specs.Line.{number, hex, path, name, slash_name}
-use Rattle.lower_model.proofs.NameOctets.{AreOctets-name}
-use Rattle.session_model.specs.declared.op.Op.{Op}
-use Rattle.session_model.specs.declared.op.Op.TheVariants.{Mkdir, List as ListOp}
+use Rattle.text_model.specs.Line.{number, hex}
 use Rattle.job_model.specs.declared.limits.TheConstants.{LONGEST_PASSPHRASE, MOST_SESSIONS, MOST_ITEMS}
 use Rattle.job_model.specs.declared.job.NameCoding.{NameCoding}
 use Rattle.job_model.specs.declared.job.NameCoding.TheVariants.{Plain, Tag70}
 use Rattle.lower_model.specs.declared.meta_place.MetaPlace.{MetaPlace}
 use Rattle.lower_model.specs.declared.meta_place.MetaPlace.TheVariants.{Header, Attribute}
-use Rattle.job_model.specs.Job.{IsOp, IsPassphrase, IsSchedule}
-use Rattle.job_model.specs.JobText.{op_fields, coding_word, meta_place_word}
-use Rattle.tree_model.specs.Path.{IsPath}
-use Rattle.line_reader.specs.Lines.{cut_in}
-use Rattle.line_reader.specs.Fields.{IsName, number_in, hex_in, path_in, each_in}
+use Rattle.job_model.specs.Job.{IsPassphrase, IsSchedule}
+use Rattle.job_model.specs.JobText.{coding_word, meta_place_word}
+use Rattle.line_reader.specs.Fields.{number_in, hex_in, each_in}
 use Rattle.line_reader.proofs.Readers.{IsReader, guard_some}
 use Rattle.line_reader.proofs.Words.{is_word, is_other, both, weaker}
 use Rattle.line_reader.proofs.NumberReader.{own, number_reader}
 use Rattle.line_reader.proofs.HexReader.{hex_reader, hex_digits}
-use Rattle.line_reader.proofs.NameReader.{name_words, chosen}
-use Rattle.line_reader.proofs.Cutting.{cut_parts, cut_again}
-use Rattle.line_reader.proofs.PathReader.{AreSome, fields_reader, path_reader}
+use Rattle.line_reader.proofs.NameReader.{chosen}
+use Rattle.line_reader.proofs.PathReader.{AreSome, fields_reader}
 use Rattle.std.specs.Char.{is_ascii_digit}
-use Rattle.job_text.specs.JobReading.{passphrase_if, passphrase_in, coding_in, meta_place_in, number_if, count_in, OpWord, op_words, op_behind, op_in, item_if, item_in, items_if, items_in}
+use Rattle.job_text.specs.JobReading.{passphrase_if, passphrase_in, coding_in, meta_place_in, number_if, count_in, item_if, item_in, items_if, items_in}
 use Rattle.job_text.proofs.LineParts.{HasNoEnd}
 
 -- ---- none of them holds a line end
@@ -49,14 +42,6 @@ number_without octet n lt fits = weaker is_ascii_digit (is_other octet) (λ c e.
 
 pub hex_no_end : (octets : List ℕ) → AreOctets octets → HasNoEnd (hex octets)
 hex_no_end octets fits = weaker is_word (is_other 10) word_no_end (hex octets) (hex_digits octets fits).1
-
-names_no_end : (names : List (List ℕ)) → AllByRecursion IsName names → HasNoEnd (flat_map slash_name names)
-names_no_end [] h = refl
-names_no_end (first ∷ names) h = both (is_other 10) (slash_name first) (flat_map slash_name names) (weaker is_word (is_other 10) word_no_end (name first) (name_words first (AreOctets-name first h.0))) (names_no_end names h.1)
-
-pub path_no_end : (names : List (List ℕ)) → AllByRecursion IsName names → HasNoEnd (path names)
-path_no_end [] h = refl
-path_no_end (first ∷ names) h = names_no_end (first ∷ names) h
 
 -- ---- readers
 
@@ -132,64 +117,6 @@ count_reader least most small = record { found = found; again = again }
 
     again : (n : ℕ) → IsWithin least most n → count_in least most (decimal n) ≡ Some n
     again n h = let fits : n < 2 ^ 64 = omega (arith, h.most_is) in rw (number_reader.again n fits, le-leb least n h.least_is, le-leb n most h.most_is) refl
-
--- ---- operations
-
-abbrev pub op_text : Op → List ℕ
-op_text op = join_with_byte 32 (op_fields op)
-
-map_some : (f : List (List ℕ) → Op) (o : Option (List (List ℕ))) (op : Op) → option_map f o ≡ Some op → (p : List (List ℕ)) × (o ≡ Some p) × (f p ≡ op)
-map_some f None op e = absurd (none-some op e)
-map_some f (Some p) op e = (p, refl, same_Some (f p) op e)
-
--- What is read behind a word is spelled so.
-record IsOpWord (row : OpWord) : Type 0 where
-  found : (fields : List ℕ) (op : Op) → row.read fields ≡ Some op → (row.word ++ 32 ∷ fields ≡ op_text op) × IsOp op
-
--- a word with one path
-path_word : (word : List ℕ) (make : List (List ℕ) → Op) → ((names : List (List ℕ)) → word ++ 32 ∷ path names ≡ op_text (make names)) → ((names : List (List ℕ)) → IsPath names → IsOp (make names))
-    → IsOpWord (record { word = word; read = λ fields. option_map make (path_in fields) })
-path_word word make spelled is = record { found = found }
-  where
-    found : (fields : List ℕ) (op : Op) → option_map make (path_in fields) ≡ Some op → (word ++ 32 ∷ fields ≡ op_text op) × IsOp op
-    found fields op e =
-        let m = map_some make (path_in fields) op e in
-        let f = path_reader.found fields m.0 m.1 in
-        subst (λ (o : Op). (word ++ 32 ∷ fields ≡ op_text o) × IsOp o) {x = make m.0} m.2 (ap (λ (t : List ℕ). word ++ 32 ∷ t) f.0 ∙ spelled m.0, is m.0 f.1)
-
-each_word : AllByRecursion IsOpWord op_words
-each_word = (path_word (codes "mkdir") Mkdir (λ names. refl) (λ names h. h), (path_word (codes "list") ListOp (λ names. refl) (λ names h. h), tt))
-
-behind_found : (rows : List OpWord) → AllByRecursion IsOpWord rows → (word fields : List ℕ) (op : Op) → op_behind rows word fields ≡ Some op → (word ++ 32 ∷ fields ≡ op_text op) × IsOp op
-behind_found [] each word fields op e = absurd (none-some op e)
-behind_found (row ∷ rows) each word fields op e =
-    elim (chosen (bytes_eq word row.word) (row.read fields) (op_behind rows word fields) (Some op) e) [
-      | inl p ↦ let f = each.0.found fields op p.1 in (ap (λ (w : List ℕ). w ++ 32 ∷ fields) (word_is word row.word p.0) ∙ f.0, f.1)
-      | inr q ↦ behind_found rows each.1 word fields op q.1
-    ]
-
-abbrev op_of_cut : List ℕ × List ℕ → Option Op
-op_of_cut cut = op_behind op_words cut.0 cut.1
-
-pub op_reader : IsReader op_in op_text IsOp
-op_reader = record { found = found; again = again }
-  where
-    of : (text : List ℕ) (op : Op) (cut : Option (List ℕ × List ℕ)) → cut_in 32 text ≡ cut → option_and_then op_of_cut cut ≡ Some op → (text ≡ op_text op) × IsOp op
-    of text op None is e = absurd (none-some op e)
-    of text op (Some cut) is e =
-        let f = behind_found op_words each_word cut.0 cut.1 op e in
-        (cut_parts 32 text cut.0 cut.1 is ∙ f.0, f.1)
-
-    found : (text : List ℕ) (op : Op) → op_in text ≡ Some op → (text ≡ op_text op) × IsOp op
-    found text op e = of text op (cut_in 32 text) refl e
-
-    again : (op : Op) → IsOp op → op_in (op_text op) ≡ Some op
-    again (Mkdir p) h = ap (option_and_then op_of_cut) (cut_again 32 (codes "mkdir") (path p) refl) ∙ ap (option_map Mkdir) (path_reader.again p h)
-    again (ListOp p) h = ap (option_and_then op_of_cut) (cut_again 32 (codes "list") (path p) refl) ∙ ap (option_map ListOp) (path_reader.again p h)
-
-pub op_no_end : (op : Op) → IsOp op → HasNoEnd (op_text op)
-op_no_end (Mkdir p) h = path_no_end p h
-op_no_end (ListOp p) h = path_no_end p h
 
 -- ---- the schedule
 

@@ -1,6 +1,5 @@
 -- The line of an image's length takes any number: where the octets end before it, they are wrong from the image's first one on.
-use Rattle.std.proofs.Common.{◌≡◌, List, [], ◌∷◌, ◌++◌, ℕ, Ok, Err, codes, refl}
-use Rattle.std.specs.Fmt.{digits}
+use Rattle.std.proofs.Common.{◌≡◌, [], ◌∷◌, ◌++◌, Ok, Err, codes, refl}
 use Rattle.line_reader.specs.Lines.{cut_in}
 use Rattle.line_reader.specs.Fields.{any_number_in}
 use Rattle.image_model.specs.ImageText.{root}

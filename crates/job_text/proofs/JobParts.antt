@@ -7,7 +7,7 @@ use Rattle.std.proofs.lemmas.List.{take-append-drop, take_at, drop_at, length-ap
 use Rattle.octet_model.specs.Octets.{HasOctets}
 use Rattle.answer_model.specs.Answer.{◌>>=◌}
 use Rattle.answer_model.proofs.Binds.{bind_ok, ok_is}
-use Rattle.job_model.specs.declared.limits.TheConstants.{MOST_SESSIONS, MOST_OPERATIONS}
+use Rattle.job_model.specs.declared.limits.TheConstants.{MOST_SESSIONS}
 use Rattle.lower_model.specs.LowerTree.{IsLowerTree}
 use Rattle.lower_model.specs.declared.node.LowerNode.{LowerNode}
 use Rattle.image_model.specs.declared.fault.ImageFault.{ImageFault}
@@ -16,25 +16,30 @@ use Rattle.image_model.specs.ImageReading.{reading}
 use Rattle.octet_model.proofs.Octets.{AreOctets-take}
 use Rattle.image_model.proofs.Image.{reading_takes, reading_again}
 use Rattle.text_model.specs.Line.{line, number, hex}
-use Rattle.session_model.specs.declared.op.Op.{Op}
+use Rattle.script_model.specs.declared.op.Op.{Op}
+use Rattle.script_model.specs.declared.limits.TheConstants.{MOST_OPERATIONS}
+use Rattle.script_model.specs.Script.{IsOp, IsScript, IsTreeScript}
+use Rattle.script_model.specs.ScriptText.{op_line, script_text}
+use Rattle.script_text.specs.OpReading.{IsReadOp}
+use Rattle.script_text.proofs.OpReader.{op_reader, op_no_end}
 use Rattle.job_model.specs.declared.job.NameCoding.{NameCoding}
 use Rattle.job_model.specs.declared.job.NameCoding.TheVariants.{Plain, Tag70}
 use Rattle.lower_model.specs.declared.meta_place.MetaPlace.{MetaPlace}
 use Rattle.lower_model.specs.declared.meta_place.MetaPlace.TheVariants.{Header, Attribute}
-use Rattle.job_model.specs.Job.{IsOp, IsScript, IsPassphrase, IsSchedule}
-use Rattle.job_model.specs.JobText.{op_line, script_text, coding_word, meta_place_word, image_text}
+use Rattle.job_model.specs.Job.{IsPassphrase, IsSchedule}
+use Rattle.job_model.specs.JobText.{coding_word, meta_place_word, image_text}
 use Rattle.line_reader.specs.Fields.{IsU64, any_number_in, number_in, sized_hex_in}
 use Rattle.line_reader.proofs.NumberReader.{number_reader, any_from_number, number_from_any}
 use Rattle.line_reader.proofs.HexReader.{sized_hex_reader}
 use Rattle.job_text.specs.declared.settings.Keys.{Keys}
 use Rattle.job_text.specs.declared.settings.Making.{Making}
 use Rattle.job_text.specs.JobReading.{Part, or_wrong, word_at, field_at, times_at, passphrase_in, coding_in, meta_place_in, keys_of, keys_at, making_at, behind_end, image_or_fault, sized_image_at, image_at, count_in, op_at, script_at, scripts_at, schedule_at}
-use Rattle.job_text.proofs.LineParts.{ended, HasNoEnd, IsSlice, IsPart, IsSlice-rest, word_found, field_by, field_part, read_line, line_part, times_part}
-use Rattle.job_text.proofs.FieldReaders.{hex_no_end, number_without, passphrase_reader, IsAny, coding_reader, meta_place_reader, IsWithin, count_reader, op_reader, op_no_end, items_text, items_reader, items_no_end}
+use Rattle.job_text.proofs.LineParts.{ended, HasNoEnd, IsSlice, IsPart, IsSlice-rest, word_found, field_by, field_part, line_part, times_part}
+use Rattle.job_text.proofs.FieldReaders.{hex_no_end, number_without, passphrase_reader, IsAny, coding_reader, meta_place_reader, IsWithin, count_reader, items_text, items_reader, items_no_end}
 
 -- ---- scripts
 
-op_part : IsPart op_at op_line IsOp
+op_part : IsPart op_at op_line IsReadOp
 unfolding op_at
 op_part = line_part op_reader op_no_end
 
@@ -72,20 +77,39 @@ counted_part {A} {at} {spell} {Fits} word least most clean small p = record { fo
         ap (counted_at word least most at) (append_assoc ((word ++ number (length values)) ++ 10 ∷ []) (flat_map spell values) rest)
         ∙ rw (l.again (length values) (flat_map spell values ++ rest) (record { least_is = h.least_is; most_is = h.most_is })) ((times_part p (length values)).again values rest (record { count_is = refl; each = h.each }))
 
-script_part : IsPart script_at script_text IsScript
+-- The scripts that are read so far, of all that a job may have.
+pub record IsReadScript (script : List Op) : Type 0 where
+  pub lawful : IsScript script
+  pub on_tree : IsTreeScript script
+
+lawful_each : (ops : List Op) → AllByRecursion IsReadOp ops → AllByRecursion IsOp ops
+lawful_each [] h = tt
+lawful_each (op ∷ ops) h = (h.0.lawful, lawful_each ops h.1)
+
+on_tree_each : (ops : List Op) → AllByRecursion IsReadOp ops → IsTreeScript ops
+on_tree_each [] h = tt
+on_tree_each (op ∷ ops) h = (h.0.on_tree, on_tree_each ops h.1)
+
+read_each : (ops : List Op) → AllByRecursion IsOp ops → IsTreeScript ops → AllByRecursion IsReadOp ops
+read_each [] h k = tt
+read_each (op ∷ ops) h k = (record { lawful = h.0; on_tree = k.0 }, read_each ops h.1 k.1)
+
+script_part : IsPart script_at script_text IsReadScript
 unfolding script_at
 script_part = record { found = found; again = again }
   where
-    p : IsPart (counted_at (codes "script ") 0 MOST_OPERATIONS op_at) (counted_text (codes "script ") op_line) (AreCounted 0 MOST_OPERATIONS IsOp)
+    p : IsPart (counted_at (codes "script ") 0 MOST_OPERATIONS op_at) (counted_text (codes "script ") op_line) (AreCounted 0 MOST_OPERATIONS IsReadOp)
     p = counted_part (codes "script ") 0 MOST_OPERATIONS refl (omega arith) op_part
 
-    found : (octets : List ℕ) → IsSlice octets → (x : List Op × List ℕ) → script_at octets ≡ Ok x → (octets ≡ script_text x.0 ++ x.1) × IsScript x.0
-    found octets fits x e = let f = p.found octets fits x e in (f.0, record { few = f.1.most_is; ops = f.1.each })
+    found : (octets : List ℕ) → IsSlice octets → (x : List Op × List ℕ) → script_at octets ≡ Ok x → (octets ≡ script_text x.0 ++ x.1) × IsReadScript x.0
+    found octets fits x e =
+        let f = p.found octets fits x e in
+        (f.0, record { lawful = record { few = f.1.most_is; ops = lawful_each x.0 f.1.each }; on_tree = on_tree_each x.0 f.1.each })
 
-    again : (ops : List Op) (rest : List ℕ) → IsScript ops → script_at (script_text ops ++ rest) ≡ Ok (ops, rest)
-    again ops rest h = p.again ops rest (record { least_is = omega arith; most_is = h.few; each = h.ops })
+    again : (ops : List Op) (rest : List ℕ) → IsReadScript ops → script_at (script_text ops ++ rest) ≡ Ok (ops, rest)
+    again ops rest h = p.again ops rest (record { least_is = omega arith; most_is = h.lawful.few; each = read_each ops h.lawful.ops h.on_tree })
 
-pub scripts_part : IsPart scripts_at (counted_text (codes "sessions ") script_text) (AreCounted 1 MOST_SESSIONS IsScript)
+pub scripts_part : IsPart scripts_at (counted_text (codes "sessions ") script_text) (AreCounted 1 MOST_SESSIONS IsReadScript)
 unfolding scripts_at
 scripts_part = counted_part (codes "sessions ") 1 MOST_SESSIONS refl (omega arith) script_part
 

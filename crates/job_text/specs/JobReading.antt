@@ -1,22 +1,22 @@
 -- Reading a job line by line, up to the first line that isn't in the grammar at its place.
-use Rattle.std.specs.Prelude.{ℕ, zero, suc, ◌≡◌, ◌-◌, List, [], ◌∷◌, length, take, drop, codes, Option, Some, None, option_and_then, Result, Ok, Err, Bool, true, false, nat_lt, nat_le, ◌==◌, ◌&&◌, if◌then◌else◌}
+use Rattle.std.specs.Prelude.{ℕ, zero, suc, ◌≡◌, ◌-◌, List, [], ◌∷◌, length, take, drop, codes, Option, Some, None, Result, Ok, Err, Bool, true, false, nat_lt, nat_le, ◌==◌, ◌&&◌, if◌then◌else◌}
 use Rattle.std.specs.List.{slice_split}
-use Rattle.std.specs.Option.{option_map}
 use Rattle.std.specs.Str.{bytes_eq}
 use Rattle.answer_model.specs.Answer.{◌>>=◌, GivesAs}
 use Rattle.lower_model.specs.declared.node.LowerNode.{LowerNode}
 use Rattle.image_model.specs.declared.fault.ImageFault.{ImageFault}
 use Rattle.image_model.specs.ImageReading.{reading}
-use Rattle.session_model.specs.declared.op.Op.{Op}
-use Rattle.session_model.specs.declared.op.Op.TheVariants.{Mkdir, List as ListOp}
-use Rattle.job_model.specs.declared.limits.TheConstants.{LONGEST_PASSPHRASE, MOST_SESSIONS, MOST_OPERATIONS, MOST_ITEMS}
+use Rattle.script_model.specs.declared.op.Op.{Op}
+use Rattle.script_model.specs.declared.limits.TheConstants.{MOST_OPERATIONS}
+use Rattle.script_text.specs.OpReading.{op_in}
+use Rattle.job_model.specs.declared.limits.TheConstants.{LONGEST_PASSPHRASE, MOST_SESSIONS, MOST_ITEMS}
 use Rattle.job_model.specs.declared.job.Job.{Job}
 use Rattle.job_model.specs.declared.job.NameCoding.{NameCoding}
 use Rattle.job_model.specs.declared.job.NameCoding.TheVariants.{Plain, Tag70}
 use Rattle.lower_model.specs.declared.meta_place.MetaPlace.{MetaPlace}
 use Rattle.lower_model.specs.declared.meta_place.MetaPlace.TheVariants.{Header, Attribute}
-use Rattle.line_reader.specs.Lines.{cut_in, line_in}
-use Rattle.line_reader.specs.Fields.{any_number_in, number_in, hex_in, sized_hex_in, path_in, each_in}
+use Rattle.line_reader.specs.Lines.{line_in}
+use Rattle.line_reader.specs.Fields.{any_number_in, number_in, hex_in, sized_hex_in, each_in}
 use Rattle.job_text.specs.declared.fault.JobError.{JobError}
 use Rattle.job_text.specs.declared.fault.JobError.TheVariants.{Bad, Memory}
 use Rattle.job_text.specs.declared.fault.LineError.{LineError}
@@ -143,26 +143,6 @@ number_if least most (Some n) = if nat_le least n && nat_le n most then Some n e
 -- a number from least to most
 abbrev pub count_in : ℕ → ℕ → List ℕ → Option ℕ
 count_in least most text = number_if least most (number_in text)
-
--- An operation's word, and how the fields behind it are read.
-pub record OpWord : Type 0 where
-  pub word : List ℕ
-  pub read : List ℕ → Option Op
-
-abbrev pub op_words : List OpWord
-op_words =
-    record { word = codes "mkdir"; read = λ fields. option_map Mkdir (path_in fields) }
-    ∷ record { word = codes "list"; read = λ fields. option_map ListOp (path_in fields) }
-    ∷ []
-
--- fields that are read as those of this word
-abbrev pub op_behind : List OpWord → List ℕ → List ℕ → Option Op
-op_behind [] word fields = None
-op_behind (first ∷ others) word fields = if bytes_eq word first.word then first.read fields else op_behind others word fields
-
--- a word, a blank, and the fields behind it
-abbrev pub op_in : List ℕ → Option Op
-op_in text = option_and_then (λ cut. op_behind op_words cut.0 cut.1) (cut_in 32 text)
 
 unfoldable pub op_at : List ℕ → Part Op
 op_at octets = do

@@ -1,13 +1,14 @@
 ghost use Rattle.std.specs.Prelude.{◌≡◌, ◌≤◌, codes, length, IfOk};
-ghost use Rattle.job_text.specs.JobReading.{Gives, field_at, count_in, op_words, op_behind as op_behind_test, op_in, op_at, times_at, script_at, scripts_at};
+ghost use Rattle.job_text.specs.JobReading.{Gives, field_at, count_in, op_at, times_at, script_at, scripts_at};
 
 use crate::fault::LineError;
 use crate::line::word_line;
-use job_model::{MOST_OPERATIONS, MOST_SESSIONS};
-use line_reader::{cut_at, first_line, read_number, read_path};
+use job_model::MOST_SESSIONS;
+use line_reader::{first_line, read_number};
 use lower_model::Items;
-use session_model::Op;
-use std::alloc::{AllocError, Global};
+use script_model::{MOST_OPERATIONS, Op};
+use script_text::{OpError, read_op};
+use std::alloc::Global;
 
 /// The line of a word and a number from least to most, and the octets behind the line.
 fn count_of<'a>(
@@ -29,28 +30,6 @@ fn count_of<'a>(
     }
 }
 
-/// The operation of a word and its fields.
-fn op_behind(alloc: Global, word: &[u8], fields: &[u8]) -> Result<Option<Op>, AllocError>
-    ensures { IfOk result (λ found. found ≡ op_behind_test op_words word.now fields.now) }
-{
-    if word == b"mkdir".as_slice() {
-        return Ok(read_path(alloc, fields)?.map(Op::Mkdir));
-    }
-    if word == b"list".as_slice() {
-        return Ok(read_path(alloc, fields)?.map(Op::List));
-    }
-    Ok(None)
-}
-
-fn read_op(alloc: Global, text: &[u8]) -> Result<Option<Op>, AllocError>
-    ensures { IfOk result (λ found. found ≡ op_in text.now) }
-{
-    let Some((word, fields)) = cut_at(b' ', text) else {
-        return Ok(None);
-    };
-    op_behind(alloc, word, fields)
-}
-
 #[tactic(auto, unfolding(crate::specs::JobReading::op_at))]
 fn op_of(alloc: Global, octets: &[u8]) -> Result<(Op, &[u8]), LineError>
     ensures { Gives (λ x. (x.0, x.1.now)) result (op_at octets.now) }
@@ -58,10 +37,11 @@ fn op_of(alloc: Global, octets: &[u8]) -> Result<(Op, &[u8]), LineError>
     let Some((line, rest)) = first_line(octets) else {
         return Err(LineError::Wrong(octets.len()));
     };
-    let Some(op) = read_op(alloc, line)? else {
-        return Err(LineError::Wrong(octets.len()));
-    };
-    Ok((op, rest))
+    match read_op(alloc, line) {
+        Ok(op) => Ok((op, rest)),
+        Err(OpError::Bad) => Err(LineError::Wrong(octets.len())),
+        Err(OpError::Memory) => Err(LineError::Memory),
+    }
 }
 
 fn ops_of(alloc: Global, count: u64, octets: &[u8]) -> Result<(Items<Op>, &[u8]), LineError>

@@ -1,6 +1,6 @@
 use crate::{Job, JobError, MetaPlace, NameCoding, read_job};
 use lower_model::Kind;
-use session_model::Op;
+use script_model::Op;
 use std::alloc::{AllocError, Global};
 use std::test::Fail;
 
@@ -48,7 +48,7 @@ fn refuses_a_wrong_line(rt: HostRuntime) -> Result<(), Fail> {
         [
             HEAD,
             IMAGE,
-            b"sessions 1\nscript 1\nstat /\nschedule\nend\n".as_slice(),
+            b"sessions 1\nscript 1\nsync 0\nschedule\nend\n".as_slice(),
         ],
     ] {
         let answer = job_of(rt.alloc(), parts)?;

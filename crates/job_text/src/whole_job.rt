@@ -11,7 +11,7 @@ use crate::script::scripts_of;
 use crate::settings::{Keys, Making, keys_of, making_of};
 use job_model::{Job, MOST_OCTETS, NameCoding};
 use lower_model::{Items, LowerTree};
-use session_model::Op;
+use script_model::Op;
 use std::alloc::Global;
 
 /// What stands behind the settings of a job.

@@ -1,5 +1,5 @@
 -- Which lists of turns a plain tree could have had.
-use Rattle.std.specs.Prelude.{ℕ, ◌≡◌, ◌≤◌, List, [], ◌∷◌}
+use Rattle.std.specs.Prelude.{ℕ, ◌≡◌, ◌≤◌, List}
 use Rattle.std.specs.List.{AllByRecursion}
 use Rattle.answer_model.specs.Count.{Rose}
 use Rattle.tree_model.specs.declared.call.TreeCall.{TreeCall}
@@ -7,6 +7,7 @@ use Rattle.tree_model.specs.declared.call.TreeReply.{TreeReply}
 use Rattle.tree_model.specs.declared.call.TreeReply.TheVariants as replies
 use Rattle.tree_model.specs.PlainTree.{PlainTree, IsNoRefusal, step}
 use Rattle.session_model.specs.declared.entry.TreeEntry.{TreeEntry}
+use Rattle.session_model.specs.Legal.{Counts, IsLegal, JoinsUp}
 
 -- The call may answer this, and the tree goes on from old to new: by the step, or unchanged for want of memory or for a fault that the count shows.
 abbrev pub Turns : TreeReply → TreeCall → ℕ → ℕ → PlainTree → PlainTree → Type 0
@@ -18,22 +19,14 @@ pub record IsTurn (old : PlainTree) (e : TreeEntry) (new : PlainTree) : Type 0 w
   pub later : e.before ≤ e.after
   pub turns : Turns e.reply e.call e.before e.after old new
 
--- from old, these turns one behind another lead to new
-abbrev pub IsLegal : PlainTree → List TreeEntry → PlainTree → Type 0
-IsLegal old [] new = new ≡ old
-IsLegal old (e ∷ log) new = (mid : PlainTree) × IsTurn old e mid × IsLegal mid log new
-
--- each count of faults begins where the one before ended
-abbrev pub JoinsUp : List TreeEntry → Type 0
-JoinsUp [] = Unit {0}
-JoinsUp (e ∷ []) = Unit {0}
-JoinsUp (e ∷ f ∷ log) = (f.before ≡ e.after) × JoinsUp (f ∷ log)
+abbrev pub counts_of : TreeEntry → Counts
+counts_of e = record { before = e.before; after = e.after }
 
 -- In these turns no fault was counted.
 abbrev pub AreFaultless : List TreeEntry → Type 0
 AreFaultless log = AllByRecursion (λ (e : TreeEntry). (e.before ≡ 0) × (e.after ≡ 0)) log
 
--- The log of a plain tree.
+-- The log of a plain tree, which leads from old to new.
 pub record IsTreeLog (old : PlainTree) (log : List TreeEntry) (new : PlainTree) : Type 0 where
-  pub legal : IsLegal old log new
-  pub counts : JoinsUp log
+  pub legal : IsLegal IsTurn old log new
+  pub counts : JoinsUp counts_of log

@@ -1,0 +1,57 @@
+ghost use Rattle.std.specs.Prelude.{◌≡◌, IfOk, Err};
+ghost use Rattle.std.specs.Option.{option_copied};
+ghost use Rattle.script_model.specs.declared.op.Op.{Op as OpValue};
+ghost use Rattle.script_text.specs.OpReading.{fields_behind, op_words, op_behind as op_behind_test, op_in, IsOpText, ReadsOp};
+
+use crate::fields::{first_field, read_alone, read_pair};
+use script_model::Op;
+use std::alloc::{AllocError, Global};
+
+/// Why a line of a script wasn't read.
+#[derive(Clone, Copy, Debug, PartialEq, Eq)]
+pub enum OpError {
+    /// The line isn't in the grammar.
+    Bad,
+    /// Memory ran out.
+    Memory,
+}
+
+/// The operation of a word and its fields.
+fn op_behind(alloc: Global, word: &[u8], fields: Option<&[u8]>) -> Result<Option<Op>, AllocError>
+    ensures { IfOk result (λ found. found ≡ op_behind_test op_words word.now (fields_behind (option_copied fields.entry))) }
+{
+    if word == b"mkdir".as_slice() {
+        return Ok(read_alone(alloc, fields)?.map(Op::Mkdir));
+    }
+    if word == b"rmdir".as_slice() {
+        return Ok(read_alone(alloc, fields)?.map(Op::Rmdir));
+    }
+    if word == b"unlink".as_slice() {
+        return Ok(read_alone(alloc, fields)?.map(Op::Unlink));
+    }
+    if word == b"rename".as_slice() {
+        return Ok(read_pair(alloc, fields)?.map(|(old, new)| Op::Rename(old, new)));
+    }
+    if word == b"list".as_slice() {
+        return Ok(read_alone(alloc, fields)?.map(Op::List));
+    }
+    if word == b"stat".as_slice() {
+        return Ok(read_alone(alloc, fields)?.map(Op::Stat));
+    }
+    Ok(None)
+}
+
+/// The operation whose line this is, without its line end; `Bad` exactly where it is the line of
+/// none that is read so far.
+pub fn read_op(alloc: Global, line: &[u8]) -> Result<Op, OpError>
+    ensures found { IfOk result (λ op. IsOpText op line.now) }
+    ensures bad { result ≡ Err OpError.Bad → (op : OpValue) → IsOpText op line.now → ⊥ }
+    ensures value { ReadsOp result (op_in line.now) }
+{
+    let (word, fields) = first_field(line);
+    match op_behind(alloc, word, fields) {
+        Ok(Some(op)) => Ok(op),
+        Ok(None) => Err(OpError::Bad),
+        Err(_) => Err(OpError::Memory),
+    }
+}

@@ -1,0 +1,3 @@
+pub mod OnTreeAlone
+pub mod Serving
+pub mod Running
