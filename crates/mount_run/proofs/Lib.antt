@@ -1,4 +1,5 @@
 pub mod Commands
+pub mod LoggedTurns
 pub mod Moves
 pub mod Serving
 pub mod ShownLines

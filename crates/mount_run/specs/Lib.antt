@@ -3,4 +3,5 @@ pub mod Memory
 pub mod ShowLines
 pub mod SourceAndSink
 pub mod Status
+pub mod TreeReplies
 pub mod Words

@@ -2,6 +2,7 @@
 #![tactic(auto)]
 
 mod answer;
+mod logged_tree;
 mod memory;
 mod ring;
 mod run;

@@ -1,15 +1,20 @@
 ghost use Rattle.std.specs.Prelude.{◌≡◌, ◌∷◌, [], length, IfOk};
+ghost use Rattle.std.specs.List.{AllByRecursion};
+ghost use Rattle.script_model.specs.Script.{IsTreeScript};
 ghost use Rattle.job_model.specs.Job.{IsJob};
 ghost use Rattle.served_model.specs.Served.{Served};
 
+use crate::logged_tree::LoggedTree;
 use job_model::LONGEST_PLAIN_NAME;
 use job_text::Job;
 use lower_model::Items;
-use one_session::run_script;
 use plain_names::{carrying_tree, shown_tree};
 use report_text::write_report;
-use session_model::Op;
+use script_model::Op;
+use session::{Script, Session};
+use session_run::run_session;
 use std::alloc::{AllocError, Global};
+use turn_lock::Chain;
 
 // The one script.
 fn only_script(scripts: Items<Items<Op>>) -> Vec<Op>
@@ -27,11 +32,17 @@ fn only_script(scripts: Items<Items<Op>>) -> Vec<Op>
 pub fn serve(alloc: Global, job: Job) -> Result<Vec<u8>, AllocError>
     requires lawful { IsJob job }
     requires one_session { length job.scripts ≡ 1 }
+    requires tree_calls { AllByRecursion IsTreeScript job.scripts }
     ensures { IfOk result (λ report. Served job report.items) }
 {
     let Job { image, scripts, .. } = job;
-    let mut tree = shown_tree(alloc, &image, LONGEST_PLAIN_NAME)?;
-    let ran = run_script(alloc, &mut tree, only_script(scripts))?;
-    let after = carrying_tree(alloc, &tree, &image)?;
-    write_report(alloc, &[Items::from_vec(ran.replies)], &ran.log, &after)
+    let tree = shown_tree(alloc, &image, LONGEST_PLAIN_NAME)?;
+    let session = Session::new(alloc, 0, Script::new(only_script(scripts)))?;
+    let mut mount = LoggedTree {
+        tree,
+        log: Chain::new(),
+    };
+    let session = run_session(alloc, &mut mount, session);
+    let after = carrying_tree(alloc, &mount.tree, &image)?;
+    write_report(alloc, &[session], &mount.log, &after)
 }

@@ -12,8 +12,10 @@ use Rattle.served_model.specs.ReportText.{tree_call, tree_reply, entry_line}
 
 -- a sign and the reply behind it
 behind_sign : (reply : TreeReply) → join_with_byte 32 (codes "=" ∷ tree_reply reply) ≡ codes "= " ++ join_with_byte 32 (tree_reply reply)
+behind_sign (replies.Node node) = refl
 behind_sign replies.Done = refl
 behind_sign (replies.Names names) = refl
+behind_sign (replies.Info kind node) = refl
 behind_sign (replies.Refused refusal) = refl
 behind_sign replies.LowerFault = refl
 behind_sign replies.Memory = refl
@@ -21,8 +23,14 @@ behind_sign replies.Memory = refl
 -- a call between the field before it and those behind it
 around_call : (field next : List ℕ) (others : List (List ℕ)) (call : TreeCall) →
     join_with_byte 32 (field ∷ (tree_call call ++ next ∷ others)) ≡ field ++ 32 ∷ (join_with_byte 32 (tree_call call) ++ 32 ∷ join_with_byte 32 (next ∷ others))
+around_call field next others (calls.Resolve p) = refl
+around_call field next others (calls.Create p) = refl
 around_call field next others (calls.Mkdir p) = refl
+around_call field next others (calls.Rmdir p) = refl
+around_call field next others (calls.Unlink p) = refl
+around_call field next others (calls.Rename p q) = simp append_assoc
 around_call field next others (calls.List p) = refl
+around_call field next others (calls.Stat p) = refl
 
 -- the parts of an entry's line, written one behind another
 pub entry_line-parts : (out : List ℕ) (e : TreeEntry) →

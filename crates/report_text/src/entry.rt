@@ -1,13 +1,13 @@
 ghost use Rattle.std.specs.Prelude.{◌≡◌, ◌∷◌, ◌++◌, [], OnOk};
 ghost use Rattle.std.specs.List.{join_with_byte};
-ghost use Rattle.text_model.specs.Line.{number};
+ghost use Rattle.text_model.specs.Line.{number, path};
 ghost use Rattle.served_model.specs.ReportText.{tree_call, entry_line};
 
 use crate::reply::put_tree_reply;
 use line_writer::{put_line_end, put_number, put_path, put_space, put_word};
 use session_model::TreeEntry;
 use std::alloc::AllocError;
-use tree_model::TreeCall;
+use tree_model::{Path, TreeCall};
 
 // A number and the space behind it.
 fn put_count(out: &mut Vec<u8>, n: u64) -> Result<(), AllocError>
@@ -17,19 +17,31 @@ fn put_count(out: &mut Vec<u8>, n: u64) -> Result<(), AllocError>
     put_space(out)
 }
 
+// A word, which has its space, and the path behind it.
+fn put_word_and_path(out: &mut Vec<u8>, word: &str, to: &Path) -> Result<(), AllocError>
+    ensures { OnOk result (out.new.items ≡ out.old.items ++ word.now ++ path to.now) }
+{
+    put_word(out, word)?;
+    put_path(out, to)
+}
+
 // The fields of a call on the tree.
 fn put_tree_call(out: &mut Vec<u8>, call: &TreeCall) -> Result<(), AllocError>
     ensures { OnOk result (out.new.items ≡ out.old.items ++ join_with_byte 32 (tree_call call.now)) }
 {
     match call {
-        TreeCall::Mkdir(path) => {
-            put_word(out, "mkdir ")?;
-            put_path(out, path)
+        TreeCall::Resolve(path) => put_word_and_path(out, "resolve ", path),
+        TreeCall::Create(path) => put_word_and_path(out, "create ", path),
+        TreeCall::Mkdir(path) => put_word_and_path(out, "mkdir ", path),
+        TreeCall::Rmdir(path) => put_word_and_path(out, "rmdir ", path),
+        TreeCall::Unlink(path) => put_word_and_path(out, "unlink ", path),
+        TreeCall::Rename(old, new) => {
+            put_word_and_path(out, "rename ", old)?;
+            put_space(out)?;
+            put_path(out, new)
         }
-        TreeCall::List(path) => {
-            put_word(out, "list ")?;
-            put_path(out, path)
-        }
+        TreeCall::List(path) => put_word_and_path(out, "list ", path),
+        TreeCall::Stat(path) => put_word_and_path(out, "stat ", path),
     }
 }
 

@@ -3,6 +3,7 @@
 #![tactic(auto)]
 
 mod entry;
+mod fields;
 mod reply;
 mod report;
 mod show;

@@ -1,4 +1,4 @@
-ghost use Rattle.std.specs.Prelude.{◌≡◌, ◌∷◌, ◌++◌, [], IfOk, OnOk};
+ghost use Rattle.std.specs.Prelude.{◌≡◌, ◌∷◌, ◌++◌, [], map, IfOk, OnOk};
 ghost use Rattle.std.specs.List.{flat_map};
 ghost use Rattle.text_model.specs.Line.{line, number};
 ghost use Rattle.job_model.specs.JobText.{image_text};
@@ -8,9 +8,11 @@ use crate::entry::put_entry_line;
 use crate::reply::put_reply_line;
 use line_writer::{put_line_end, put_number, put_space, put_word};
 use lower_image::write_image;
-use lower_model::{Items, LowerTree};
+use lower_model::LowerTree;
+use session::Session;
 use session_model::{Reply, TreeEntry};
 use std::alloc::{AllocError, Global};
+use turn_lock::Chain;
 
 // A line of a word and how many of them follow.
 fn put_count_line(out: &mut Vec<u8>, word: &str, count: usize) -> Result<(), AllocError>
@@ -42,17 +44,17 @@ fn put_session(out: &mut Vec<u8>, session: usize, replies: &[Reply]) -> Result<(
     put_replies(out, replies)
 }
 
-fn put_sessions(out: &mut Vec<u8>, sessions: &[Items<Reply>]) -> Result<(), AllocError>
-    ensures { OnOk result (out.new.items ≡ out.old.items ++ sessions_text 0 sessions.now) }
+fn put_sessions(out: &mut Vec<u8>, sessions: &[Session]) -> Result<(), AllocError>
+    ensures { OnOk result (out.new.items ≡ out.old.items ++ sessions_text 0 (map (λ s. s.replies) sessions.now)) }
 {
-    for (session, replies) in sessions.iter().enumerate() {
-        put_session(out, session, replies.as_slice())?;
+    for (number, session) in sessions.iter().enumerate() {
+        put_session(out, number, session.replies())?;
     }
     Ok(())
 }
 
-fn put_entries(out: &mut Vec<u8>, log: &[TreeEntry]) -> Result<(), AllocError>
-    ensures { OnOk result (out.new.items ≡ out.old.items ++ flat_map entry_line log.now) }
+fn put_entries(out: &mut Vec<u8>, log: &[&TreeEntry]) -> Result<(), AllocError>
+    ensures { OnOk result (out.new.items ≡ out.old.items ++ flat_map entry_line (map (λ e. e.now) log.now)) }
 {
     for entry in log {
         put_entry_line(out, entry)?;
@@ -60,8 +62,8 @@ fn put_entries(out: &mut Vec<u8>, log: &[TreeEntry]) -> Result<(), AllocError>
     Ok(())
 }
 
-fn put_tree(out: &mut Vec<u8>, log: &[TreeEntry]) -> Result<(), AllocError>
-    ensures { OnOk result (out.new.items ≡ out.old.items ++ tree_text log.now) }
+fn put_tree(out: &mut Vec<u8>, log: &[&TreeEntry]) -> Result<(), AllocError>
+    ensures { OnOk result (out.new.items ≡ out.old.items ++ tree_text (map (λ e. e.now) log.now)) }
 {
     put_count_line(out, "tree", log.len())?;
     put_entries(out, log)
@@ -76,24 +78,25 @@ fn put_image(out: &mut Vec<u8>, octets: &[u8]) -> Result<(), AllocError>
 }
 
 /// The text of a report: the replies of each session, by the sessions' numbers, the tree's
-/// history, and the lower tree after the run.
+/// history, which is read from its chain without a copy, and the lower tree after the run.
 pub fn write_report(
     alloc: Global,
-    sessions: &[Items<Reply>],
-    tree: &[TreeEntry],
+    sessions: &[Session],
+    tree_log: &Chain<TreeEntry>,
     image: &LowerTree,
 ) -> Result<Vec<u8>, AllocError>
     ensures { IfOk result (λ out. out.items ≡ report_text (record {
-      sessions = sessions.now;
-      histories = record { tree = tree.now };
+      sessions = map (λ s. s.replies) sessions.now;
+      histories = record { tree = tree_log.now; file = [] };
       image = image.now;
     })) }
 {
     let octets = write_image(alloc, image)?;
+    let entries = tree_log.entries(alloc)?;
     let mut out = Vec::new(alloc);
     put_word(&mut out, "ecryptfs-report 1\n")?;
     put_sessions(&mut out, sessions)?;
-    put_tree(&mut out, tree)?;
+    put_tree(&mut out, &entries)?;
     put_image(&mut out, &octets)?;
     put_word(&mut out, "end\n")?;
     Ok(out)

@@ -43,6 +43,43 @@ fn the_report_of_each_reply(rt: HostRuntime) -> Result<(), Fail> {
     Ok(())
 }
 
+// The same image. A file is moved, a directory is moved onto another, and what is removed is gone;
+// each refusal that isn't told above comes once.
+#[test]
+fn entries_are_moved_and_removed(rt: HostRuntime) -> Result<(), Fail> {
+    let alloc = rt.alloc();
+    let image =
+        b"ECRYIMG1\x00\x00\x00\x01\x00\x01\x01\x01f\x01\x00\x00\x00\x02at\x00\x00\x00\x04body";
+    let lines = [
+        "mkdir /a",
+        "rename /f /a/g",
+        "rmdir /a",
+        "unlink /a",
+        "rename /a /a/b",
+        "mkdir /c",
+        "rename /a /c",
+        "stat /c/g",
+        "stat /",
+        "rename /c /c/g",
+        "rename /c/g /c",
+        "unlink /c/x",
+        "list /",
+    ];
+    let (status, report) = run(alloc, "replay", job(alloc, image, &lines)?)?;
+    assert_eq!(rt; status, OK);
+    let wanted = b"ecryptfs-report 1\nsession 0 13\n\
+        ok\nok\nerr notempty\nerr isdir\nerr inside\nok\nok\nok f 1\nok d 0\nerr notdir\nerr isdir\nerr notfound\nnames d:c\ntree 13\n\
+        0 0 0 0 mkdir /a = ok\n0 1 0 0 rename /f /a/g = ok\n0 2 0 0 rmdir /a = err notempty\n\
+        0 3 0 0 unlink /a = err isdir\n0 4 0 0 rename /a /a/b = err inside\n0 5 0 0 mkdir /c = ok\n\
+        0 6 0 0 rename /a /c = ok\n0 7 0 0 stat /c/g = ok f 1\n0 8 0 0 stat / = ok d 0\n\
+        0 9 0 0 rename /c /c/g = err notdir\n0 10 0 0 rename /c/g /c = err isdir\n\
+        0 11 0 0 unlink /c/x = err notfound\n0 12 0 0 list / = names d:c\n\
+        image 37\nECRYIMG1\x00\x00\x00\x02\x00\x01\x00\x01c\
+        \x00\x02\x01\x01g\x01\x00\x00\x00\x02at\x00\x00\x00\x04body\nend\n";
+    assert_eq!(rt; report.as_slice(), wanted.as_slice());
+    Ok(())
+}
+
 // Each directory in the one before; no more can be made.
 #[test]
 fn as_many_levels_as_there_are_nodes(rt: HostRuntime) -> Result<(), Fail> {

@@ -10,7 +10,9 @@ use Rattle.tree_model.specs.declared.call.TreeReply.{TreeReply}
 use Rattle.tree_model.specs.declared.call.TreeReply.TheVariants as replies
 use Rattle.tree_model.specs.declared.call.TreeRefusal.TheVariants.{Exists}
 use Rattle.session_model.specs.declared.entry.TreeEntry.{TreeEntry}
-use Rattle.session_model.specs.declared.op.Reply.TheVariants.{Tree, Memory}
+use Rattle.session_model.specs.declared.reply.Reply.TheVariants.{Tree, File, Opened, Slot, Memory}
+use Rattle.session_model.specs.declared.file.FileReply.TheVariants as files
+use Rattle.packet_model.specs.declared.cause.BadCause.TheVariants as causes
 use Rattle.served_model.specs.ReportText.{Report, report_text, entry_line, reply_line}
 
 -- ---- a directory `a` is made below an empty root, and listed
@@ -37,7 +39,7 @@ entry_of_list = refl
 abbrev root : LowerNode
 root = record { parent = 0; kind = kinds.Dir; name = []; attribute = None; body = [] }
 
-nothing_run : report_text (record { sessions = [] ∷ []; histories = record { tree = [] }; image = root ∷ [] })
+nothing_run : report_text (record { sessions = [] ∷ []; histories = record { tree = []; file = [] }; image = root ∷ [] })
     ≡ codes "ecryptfs-report 1\nsession 0 0\ntree 0\nimage 12\nECRYIMG1" ++ 0 ∷ 0 ∷ 0 ∷ 0 ∷ [] ++ codes "\nend\n"
 unfolding digits
 nothing_run = refl
@@ -48,7 +50,7 @@ directory_a = record { parent = 0; kind = kinds.Dir; name = codes "a"; attribute
 abbrev two_calls : Report
 two_calls = record {
   sessions = (Tree replies.Done ∷ Tree names_of_root ∷ []) ∷ [];
-  histories = record { tree = made_a ∷ listed_root ∷ [] };
+  histories = record { tree = made_a ∷ listed_root ∷ []; file = [] };
   image = root ∷ directory_a ∷ [];
 }
 
@@ -73,3 +75,42 @@ empty_directory = refl
 two_names : reply_line (Tree (replies.Names (record { kind = kinds.Dir; name = codes "b c" } ∷ record { kind = kinds.File; name = codes "f" } ∷ []))) ≡ codes "names d:b%20c f:f\n"
 unfolding encode_with
 two_names = refl
+
+-- the kind and the node of a directory, a file's node, its size and what was read of it
+node_told : reply_line (Tree (replies.Info kinds.Dir 12)) ≡ codes "ok d 12\n"
+unfolding digits
+node_told = refl
+
+file_opened : reply_line (Opened 3) ≡ codes "ok 3\n"
+unfolding digits
+file_opened = refl
+
+octets_read : reply_line (File (files.Octets (0 ∷ 65 ∷ []))) ≡ codes "data 0041\n"
+unfolding encode_with
+octets_read = refl
+
+none_read : reply_line (File (files.Octets [])) ≡ codes "data -\n"
+none_read = refl
+
+bad_file : reply_line (File (files.Refused (causes.Short 25))) ≡ codes "err bad short 25\n"
+unfolding digits
+bad_file = refl
+
+slot_taken : reply_line Slot ≡ codes "err slot\n"
+slot_taken = refl
+
+-- ---- a turn that a lower fault ended, and one that moved an entry
+
+abbrev moved : TreeEntry
+moved = record { session = 0; op = 3; call = calls.Rename (codes "a" ∷ []) (codes "b" ∷ codes "c" ∷ []); reply = replies.Done; before = 1; after = 1 }
+
+entry_of_rename : entry_line moved ≡ codes "0 3 1 1 rename /a /b/c = ok\n"
+unfolding digits
+entry_of_rename = refl
+
+abbrev failed : TreeEntry
+failed = record { session = 0; op = 0; call = calls.Mkdir (codes "a" ∷ []); reply = replies.LowerFault; before = 0; after = 1 }
+
+entry_of_fault : entry_line failed ≡ codes "0 0 0 1 mkdir /a = err lower\n"
+unfolding digits
+entry_of_fault = refl

@@ -3,19 +3,23 @@ use Rattle.std.specs.Prelude.{ℕ, ◌+◌, List, [], ◌∷◌, ◌++◌, lengt
 use Rattle.std.specs.List.{flat_map}
 use Rattle.lower_model.specs.declared.node.LowerNode.{LowerNode}
 use Rattle.lower_model.specs.declared.kind.Kind.{Kind}
-use Rattle.lower_model.specs.declared.kind.Kind.TheVariants.{Dir, File}
+use Rattle.lower_model.specs.declared.kind.Kind.TheVariants as kinds
 use Rattle.tree_model.specs.declared.call.Shown.{Shown}
 use Rattle.tree_model.specs.declared.call.TreeCall.{TreeCall}
 use Rattle.tree_model.specs.declared.call.TreeCall.TheVariants as calls
 use Rattle.tree_model.specs.declared.call.TreeReply.{TreeReply}
 use Rattle.tree_model.specs.declared.call.TreeReply.TheVariants as replies
 use Rattle.tree_model.specs.declared.call.TreeRefusal.{TreeRefusal}
-use Rattle.tree_model.specs.declared.call.TreeRefusal.TheVariants.{NameLong, NotFound, NotDir, IsRoot, Exists, NoNodes}
+use Rattle.tree_model.specs.declared.call.TreeRefusal.TheVariants.{NameLong, NotFound, NotDir, IsRoot, Exists, IsDir, Inside, NotEmpty, NoNodes}
 use Rattle.image_model.specs.ImageText.{image}
 use Rattle.session_model.specs.declared.entry.TreeEntry.{TreeEntry}
-use Rattle.session_model.specs.declared.op.Reply.{Reply}
-use Rattle.session_model.specs.declared.op.Reply.TheVariants.{Tree, Memory}
-use Rattle.session_model.specs.ScriptCalls.{Histories}
+use Rattle.session_model.specs.declared.file.FileReply.{FileReply}
+use Rattle.session_model.specs.declared.file.FileReply.TheVariants as files
+use Rattle.session_model.specs.declared.reply.Reply.{Reply}
+use Rattle.session_model.specs.declared.reply.Reply.TheVariants.{Tree, File, Opened, Slot, Handle, Memory}
+use Rattle.session_model.specs.Histories.{Histories}
+use Rattle.field_model.specs.CauseText.{cause_fields}
+use Rattle.field_model.specs.NodeText.{kind_letter, data_field}
 use Rattle.text_model.specs.Line.{line, number, name, path}
 use Rattle.job_model.specs.JobText.{image_text}
 
@@ -25,30 +29,61 @@ refusal_word NotFound = codes "notfound"
 refusal_word NotDir = codes "notdir"
 refusal_word IsRoot = codes "isroot"
 refusal_word Exists = codes "exists"
+refusal_word IsDir = codes "isdir"
+refusal_word Inside = codes "inside"
+refusal_word NotEmpty = codes "notempty"
 refusal_word NoNodes = codes "nonodes"
 
 abbrev pub kind_word : Kind → List ℕ
-kind_word Dir = codes "d:"
-kind_word File = codes "f:"
+kind_word kinds.Dir = codes "d:"
+kind_word kinds.File = codes "f:"
 
 abbrev pub shown_field : Shown → List ℕ
 shown_field s = kind_word s.kind ++ name s.name
 
--- the fields of a reply
+-- a word that tells why something isn't done
+abbrev pub error : List ℕ → List (List ℕ)
+error word = codes "err" ∷ word ∷ []
+
+-- the fields of a reply of the tree
 abbrev pub tree_reply : TreeReply → List (List ℕ)
+tree_reply (replies.Node node) = codes "ok" ∷ number node ∷ []
 tree_reply replies.Done = codes "ok" ∷ []
 tree_reply (replies.Names names) = codes "names" ∷ map shown_field names
-tree_reply (replies.Refused refusal) = codes "err" ∷ refusal_word refusal ∷ []
-tree_reply replies.LowerFault = codes "err" ∷ codes "lower" ∷ []
-tree_reply replies.Memory = codes "err" ∷ codes "memory" ∷ []
+tree_reply (replies.Info kind node) = codes "ok" ∷ kind_letter kind ∷ number node ∷ []
+tree_reply (replies.Refused refusal) = error (refusal_word refusal)
+tree_reply replies.LowerFault = error (codes "lower")
+tree_reply replies.Memory = error (codes "memory")
 
+-- and of a file
+abbrev pub file_reply : FileReply → List (List ℕ)
+file_reply files.Done = codes "ok" ∷ []
+file_reply (files.Octets octets) = codes "data" ∷ data_field octets ∷ []
+file_reply (files.Length size) = codes "ok" ∷ number size ∷ []
+file_reply (files.Refused cause) = codes "err" ∷ codes "bad" ∷ cause_fields cause
+file_reply files.NotOpen = error (codes "notopen")
+file_reply files.TooBig = error (codes "toobig")
+file_reply files.LowerFault = error (codes "lower")
+file_reply files.Memory = error (codes "memory")
+
+-- the fields of what an operation is told
 abbrev pub reply_fields : Reply → List (List ℕ)
 reply_fields (Tree reply) = tree_reply reply
-reply_fields Memory = codes "err" ∷ codes "memory" ∷ []
+reply_fields (File reply) = file_reply reply
+reply_fields (Opened node) = codes "ok" ∷ number node ∷ []
+reply_fields Slot = error (codes "slot")
+reply_fields Handle = error (codes "handle")
+reply_fields Memory = error (codes "memory")
 
 abbrev pub tree_call : TreeCall → List (List ℕ)
+tree_call (calls.Resolve p) = codes "resolve" ∷ path p ∷ []
+tree_call (calls.Create p) = codes "create" ∷ path p ∷ []
 tree_call (calls.Mkdir p) = codes "mkdir" ∷ path p ∷ []
+tree_call (calls.Rmdir p) = codes "rmdir" ∷ path p ∷ []
+tree_call (calls.Unlink p) = codes "unlink" ∷ path p ∷ []
+tree_call (calls.Rename p q) = codes "rename" ∷ path p ∷ path q ∷ []
 tree_call (calls.List p) = codes "list" ∷ path p ∷ []
+tree_call (calls.Stat p) = codes "stat" ∷ path p ∷ []
 
 -- the session, its operation, the counts of faults around the turn, the call and the reply
 abbrev pub entry_line : TreeEntry → List ℕ
@@ -68,7 +103,7 @@ sessions_text session (replies ∷ sessions) = session_text session replies ++ s
 abbrev pub tree_text : List TreeEntry → List ℕ
 tree_text log = line (codes "tree" ∷ number (length log) ∷ []) ++ flat_map entry_line log
 
--- What a report tells: the replies of each session, the histories, and the lower tree after the run.
+-- What a report tells: the replies of each session, the tree's history, and the lower tree after the run. No script has calls on files yet, so no file has a history.
 pub record Report : Type 0 where
   pub sessions : List (List Reply)
   pub histories : Histories

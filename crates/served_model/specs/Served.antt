@@ -1,5 +1,5 @@
 -- What it means that an output serves a job.
-use Rattle.std.specs.Prelude.{◌≡◌, ℕ, List}
+use Rattle.std.specs.Prelude.{◌≡◌, ℕ, List, []}
 use Rattle.lower_model.specs.declared.node.LowerNode.{LowerNode}
 use Rattle.lower_model.specs.LowerTree.{IsLowerTree}
 use Rattle.tree_model.specs.PlainTree.{PlainTree}
@@ -21,6 +21,8 @@ pub record Serves (job : Job) (report : Report) (end : PlainTree) : Type 0 where
   pub tree_history : IsTreeLog (shown LONGEST_PLAIN_NAME job.image) report.histories.tree end
   -- so far no part of a run can fail, so no turn of it counts a fault
   pub no_faults : AreFaultless report.histories.tree
+  -- no turn of it is one of a file
+  pub no_file_turns : report.histories.file ≡ []
   -- it holds each session's calls once, in its order, with the replies that it got, and no others
   pub script_calls : AreScriptCalls job.scripts report.histories report.sessions
   -- the printed image carries the tree at the end

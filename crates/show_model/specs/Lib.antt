@@ -1,3 +1,2 @@
-pub mod CauseText
 pub mod ShowText
 pub mod Show

@@ -1,18 +1,14 @@
 -- The one spelling of a show text.
 use Rattle.std.specs.Prelude.{ℕ, List, [], ◌∷◌, ◌++◌, length, codes}
 use Rattle.std.specs.List.{flat_map}
-use Rattle.text_model.specs.Line.{line, number, hex, path}
+use Rattle.text_model.specs.Line.{line, number, path}
 use Rattle.content_model.specs.declared.content.Content.{Content}
 use Rattle.content_model.specs.declared.content.Content.TheVariants.{Empty, Good, Bad}
 use Rattle.show_model.specs.declared.item.ShowItem.{ShowItem}
 use Rattle.show_model.specs.declared.item.ShowWhat.{ShowWhat}
 use Rattle.show_model.specs.declared.item.ShowWhat.TheVariants.{Dir, File}
-use Rattle.show_model.specs.CauseText.{cause_fields}
-
--- the octets of a file, or `-` for none
-abbrev pub data_field : List ℕ → List ℕ
-data_field [] = codes "-"
-data_field (first ∷ rest) = hex (first ∷ rest)
+use Rattle.field_model.specs.CauseText.{cause_fields}
+use Rattle.field_model.specs.NodeText.{data_field}
 
 abbrev pub kind_letter : ShowWhat → List ℕ
 kind_letter Dir = codes "d"

@@ -6,7 +6,6 @@ use Rattle.tree_model.specs.Shown.{shown}
 use Rattle.key_model.specs.SignedKey.{SignedKey}
 use Rattle.show_model.specs.ShowText.{show_head, show_end, item_line}
 use Rattle.show_model.specs.Show.{TellsImage, TellsItems, ring_of}
-use Rattle.mount_run.specs.ShowLines.{AddsLines}
 use Rattle.mount_run.proofs.show.show.Goals as goal
 
 pub returns : goal.returns

@@ -1,7 +1,7 @@
-use Rattle.std.proofs.Common.{◌≡◌, ◌++◌, take}
+use Rattle.std.proofs.Common.{◌≡◌, ◌++◌, take, map}
 use Rattle.std.specs.List.{flat_map}
 use Rattle.served_model.specs.ReportText.{entry_line}
 use Rattle.report_text.proofs.report.put_entries.Given as goal
 
 abbrev pub invariant-loop-entry : goal.invariant-loop-entry
-invariant-loop-entry l = l.out.items ≡ l.fn.out.items ++ flat_map entry_line (take l.entry-index l.log)
+invariant-loop-entry l = l.out.items ≡ l.fn.out.items ++ flat_map entry_line (map (λ e. e.now) (take l.entry-index l.log))

@@ -1,0 +1,2 @@
+pub mod CauseText
+pub mod NodeText
