@@ -1,0 +1,11 @@
+pub mod Fronts
+pub mod Sums
+pub mod Holders
+pub mod Turning
+pub mod Noting
+pub mod Seating
+pub mod Telling
+pub mod Making
+pub mod Gathering
+pub mod Sessions
+pub mod Sent
