@@ -66,10 +66,58 @@ def compare(program, name, make, count):
           f"memory {peak / (len(whole) + size):.1f} times input plus output")
 
 
-def refused(count):
-    """`mkdir` of a name that is there, in a directory of 4,000 entries."""
-    names = [f"d{n:04}".encode() for n in range(4000)]
-    return image([(1, name) for name in names]), [f"mkdir /d{n % 4000:04}" for n in range(count)]
+WIDE = 4000
+CHAINS, DEPTH = 65, 62
+
+
+def wide(count, line_of):
+    """Lines over 4,000 directories `dNNNN` of the root, in turn."""
+    return image([(1, f"d{n:04}".encode()) for n in range(WIDE)]), [line_of(f"d{n % WIDE:04}", n) for n in range(count)]
+
+
+def chains(count, line_of):
+    """Lines at the lowest level of 65 chains of 62 directories, in turn."""
+    entries = [(level, f"c{k:02}".encode() if level == 1 else b"d") for k in range(CHAINS) for level in range(1, DEPTH + 1)]
+    tops = [f"c{k:02}" + "/d" * (DEPTH - 2) for k in range(CHAINS)]
+    return image(entries), [line_of(tops[n % CHAINS] + "/d", n) for n in range(count)]
+
+
+def there_and_back(name, n):
+    """A rename to a name that is free, and, with the names in turn for the second time, back."""
+    away = name[:-1] + "x" if "/" in name else "x" + name
+    return f"rename /{name} /{away}" if n // (CHAINS if "/" in name else WIDE) % 2 == 0 else f"rename /{away} /{name}"
+
+
+LINES = {
+    "mkdir that is exists": lambda name, n: f"mkdir /{name}",
+    "unlink that is isdir": lambda name, n: f"unlink /{name}",
+    "rename there and back": there_and_back,
+    "stat": lambda name, n: f"stat /{name}",
+}
+
+
+def full(count):
+    """`rmdir` that is notempty: 2,000 directories with one entry each."""
+    entries = [entry for n in range(2000) for entry in ((1, f"d{n:04}".encode()), (2, b"e"))]
+    return image(entries), [f"rmdir /d{n % 2000:04}" for n in range(count)]
+
+
+def full_chains(count):
+    """`rmdir` that is notempty, of the last directory but one of each chain."""
+    tree, _ = chains(0, None)
+    tops = [f"c{k:02}" + "/d" * (DEPTH - 2) for k in range(CHAINS)]
+    return tree, [f"rmdir /{tops[n % CHAINS]}" for n in range(count)]
+
+
+def lists(count):
+    """`list` of a directory of 4,000 names."""
+    return image([(1, f"d{n:04}".encode()) for n in range(WIDE)]), ["list /"] * count
+
+
+def changes(count):
+    """`mkdir`, `rename` and `rmdir` that succeed, of up to 4,000 names in the root."""
+    names = [f"d{n * 7919 % count:04}" for n in range(count)]
+    return image([]), [f"mkdir /{name}" for name in names] + [f"rename /{name} /x{name}" for name in names] + [f"rmdir /x{name}" for name in names]
 
 
 def deep(count):
@@ -79,5 +127,11 @@ def deep(count):
 
 
 program = sys.argv[1]
-compare(program, "refused mkdir", refused, 65536)
+for name, line_of in LINES.items():
+    compare(program, f"{name}, 4,000 names", lambda count: wide(count, line_of), 65536)
+    compare(program, f"{name}, 65 chains", lambda count: chains(count, line_of), 65536)
+compare(program, "rmdir that is notempty, 2,000 names", full, 65536)
+compare(program, "rmdir that is notempty, 65 chains", full_chains, 65536)
+compare(program, "list of 4,000 names", lists, 500)
+compare(program, "mkdir, rename, rmdir that succeed", changes, 4000)
 compare(program, "deep paths", deep, 4000)
