@@ -41,4 +41,13 @@ impl LowerTree {
     {
         self.nodes.as_slice()
     }
+
+    /// The nodes by their numbers. It takes no memory.
+    pub fn into_vec(self) -> Vec<LowerNode>
+        ensures nodes { result.items ≡ self }
+        ensures lawful { IsLowerTree self }
+    {
+        let LowerTree { nodes } = self;
+        nodes
+    }
 }

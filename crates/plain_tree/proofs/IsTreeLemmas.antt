@@ -306,3 +306,47 @@ nothing_more places pushed next some so_far is =
     let n : next - 1 + 1 ≡ next + 1 - 1 = omega arith in
     is ∙ ap (λ (l : List Place). l ++ Nothing ∷ []) so_far
     ∙ ap (λ (l : List Place). Dir empty_directory ∷ l) (replicate-append-replicate (next - 1) 1 Nothing ∙ ap (λ (m : ℕ). replicate m Nothing) n)
+
+-- ---- more numbers, at which nothing stands
+
+abbrev more_places : List Place → ℕ → List Place
+more_places places n = places ++ replicate n Nothing
+
+at_nothing : (n k : ℕ) (place : Option Place) → slice_get (replicate n Nothing) k ≡ place → (place ≡ None) ⊎ (place ≡ Some Nothing)
+at_nothing n k None is = inl refl
+at_nothing n k (Some place) is = inr (ap (λ (p : Place). Some p) (nothing_at n k place is))
+
+pub slice_get-grown : (places : List Place) (n k : ℕ) → (slice_get (more_places places n) k ≡ slice_get places k) ⊎ ((slice_get (more_places places n) k ≡ Some Nothing) × (slice_get places k ≡ None))
+slice_get-grown [] n k = elim (at_nothing n k (slice_get (replicate n Nothing) k) refl) [
+  | inl none ↦ inl none
+  | inr nothing ↦ inr (nothing, refl)
+]
+slice_get-grown (place ∷ places) n zero = inl refl
+slice_get-grown (place ∷ places) n (suc k) = slice_get-grown places n k
+
+-- what holds of what stood at a number, and of nothing if it held of no number, holds behind it
+grown_keeps : (P : Option Place → Type 0) → (P None → P (Some Nothing)) → (places : List Place) (n k : ℕ) → P (slice_get places k) → P (slice_get (more_places places n) k)
+grown_keeps P step places n k h = elim (slice_get-grown places n k) [
+  | inl same ↦ subst P (sym same) h
+  | inr new ↦ subst P (sym new.0) (step (subst P new.1 h))
+]
+
+grown_back : (P : Option Place → Type 0) → (P (Some Nothing) → P None) → (places : List Place) (n k : ℕ) → P (slice_get (more_places places n) k) → P (slice_get places k)
+grown_back P step places n k h = elim (slice_get-grown places n k) [
+  | inl same ↦ subst P same h
+  | inr new ↦ subst P (sym new.1) (step (subst P new.0 h))
+]
+
+pub is_tree_grown : (places : List Place) (n : ℕ) → IsTree places → length places + n ≤ most_nodes → IsTree (more_places places n)
+is_tree_grown places n tree few =
+    let shown = λ (k : ℕ) (x : List ℕ) (m : ℕ). grown_back (λ p. node_in p x ≡ Some m) (λ h. h) places n k in
+    let shows = λ (k : ℕ) (x : List ℕ) (m : ℕ). grown_keeps (λ p. node_in p x ≡ Some m) (λ h. h) places n k in
+    record {
+      few = omega (arith, length-append places (replicate n Nothing), length-replicate n Nothing);
+      root = grown_keeps IsDirectory (λ h. h) places n 0 tree.root;
+      ordered = λ k d h. tree.ordered k d (grown_back (λ p. p ≡ Some (Dir d)) (λ no. absurd cc) places n k h);
+      there = λ k x m h. grown_keeps IsNode (λ no. no) places n m (tree.there k x m (shown k x m h));
+      no_root = λ k x m h. tree.no_root k x m (shown k x m h);
+      once = λ j k a b m f g. tree.once j k a b m (shown j a m f) (shown k b m g);
+      reached = λ m h. (let here = tree.reached m (grown_back IsNode (λ no. no) places n m h) in (here.0, walk_stays places (more_places places n) shows 0 m here.0 here.1));
+    }

@@ -4,7 +4,7 @@ ghost use Rattle.tree_model.specs.declared.place.Place.{Place};
 ghost use Rattle.tree_model.specs.PlainTree.{most_nodes, empty_directory, step, comes_to, changed, reply_of, made_reply, StepsOrMemory};
 ghost use Rattle.tree_model.specs.IsTree.{IsTree, IsDirectory, node_in};
 ghost use Rattle.tree_model.specs.Walk.{walk};
-ghost use Rattle.plain_tree.specs.Entered.{entered, entered_foreign, reached};
+ghost use Rattle.plain_tree.specs.Entered.{grown, entered, entered_foreign, reached};
 ghost use Rattle.plain_tree.specs.Prepared.{PreparesFor, HasRoom, CanChange, IfChange};
 
 use crate::change::{apply, begun, empty_directory, put_foreign, put_in};
@@ -47,6 +47,17 @@ impl Tree {
             places.push(Place::Nothing)?;
         }
         Ok(Tree { limit, places })
+    }
+
+    /// Has this many node numbers at least; at those that are added nothing stands. It takes no memory.
+    pub fn grow(&mut self, count: u32)
+        requires { count ≤ most_nodes }
+        ensures { self.new ≡ grown self.old count }
+    {
+        let more = (count as usize).saturating_sub(self.places.len());
+        for _ in 0..more {
+            self.places.push(Place::Nothing).unwrap();
+        }
     }
 
     /// Shows a name in the directory `dir`, which leads to a node with a number of its own. Without memory the tree stays.

@@ -5,5 +5,8 @@ pub mod Searches
 pub mod Walks
 pub mod StepValues
 pub mod Listings
+pub mod Rising
+pub mod NodeEntries
+pub mod Standing
 mod StepsByOther
 mod NoTree

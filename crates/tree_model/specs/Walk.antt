@@ -64,11 +64,3 @@ kind_of (Some (Dir d)) = Some kinds.Dir
 kind_of (Some File) = Some kinds.File
 kind_of (Some Nothing) = None
 kind_of None = None
-
--- the kind of what a walk reaches, none where it reaches nothing
-abbrev pub kind_reached : List Place → Result ℕ TreeRefusal → Option Kind
-kind_reached places (Ok n) = kind_of (slice_get places n)
-kind_reached places (Err e) = None
-
-abbrev pub kind_at : List Place → List (List ℕ) → Option Kind
-kind_at places path = kind_reached places (walk places 0 path)

@@ -17,9 +17,9 @@ use Rattle.tree_model.specs.Shown.{entries_in, place_of, shown_places, shown}
 use Rattle.tree_model.specs.Listing.{Lists, ListsTree, numbered}
 use Rattle.tree_model.specs.PlainTree.{shown_in}
 use Rattle.tree_model.specs.Listing.Lists.{Done, Next}
-use Rattle.plain_names.proofs.Rising.{put_entries-rising}
-use Rattle.plain_names.proofs.Standing.{Fits, entry_fits, level_here, level_further, names_rise}
-use Rattle.plain_names.proofs.Places.{slice_get-places_of}
+use Rattle.tree_model.proofs.Rising.{put_entries-rising}
+use Rattle.tree_model.proofs.NodeEntries.{slice_get-places_of}
+use Rattle.tree_model.proofs.Standing.{Fits, entry_fits, level_here, level_further, names_rise}
 
 -- ---- paths
 

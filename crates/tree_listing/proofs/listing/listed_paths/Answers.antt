@@ -1,8 +1,8 @@
 use Rattle.std.proofs.Common.{◌≡◌, ℕ, length, sym, subst, arith}
 use Rattle.lower_model.specs.LowerTree.{IsLowerTree}
-use Rattle.plain_names.proofs.Listed.{NextPath, Paths, entries_of, next_path, all_paths}
-use Rattle.plain_names.proofs.listing.listed_paths.Goals.{After-deref}
-use Rattle.plain_names.proofs.listing.listed_paths.Goals as goal
+use Rattle.tree_listing.proofs.Listed.{NextPath, Paths, entries_of, next_path, all_paths}
+use Rattle.tree_listing.proofs.listing.listed_paths.Goals.{After-deref}
+use Rattle.tree_listing.proofs.listing.listed_paths.Goals as goal
 
 next : (c : After-deref) → NextPath (entries_of c.nodes.result.now) c.loop-node.node-index c.loop-node.paths.items c.node-item.result
 next c =

@@ -12,8 +12,8 @@ use Rattle.lower_model.specs.declared.node.LowerNode.{LowerNode}
 use Rattle.lower_model.specs.declared.node.OpenDir.{OpenDir}
 use Rattle.tree_model.specs.Names.{node_of, RisesBehind}
 use Rattle.tree_model.specs.Shown.{entries_in}
-use Rattle.plain_names.proofs.Rising.{RisesTo, RisesTo-push, RisesBehind-from_rises_to, absent_behind}
-use Rattle.plain_names.proofs.Entries.{entries_in-own, entries_in-other, entries_in-none, AllIn, AllIn-push, AllIn-snoc, slice_get-append, slice_get-push}
+use Rattle.tree_model.proofs.Rising.{RisesTo, RisesTo-push, RisesBehind-from_rises_to, absent_behind}
+use Rattle.tree_model.proofs.NodeEntries.{entries_in-own, entries_in-other, entries_in-none, AllIn, AllIn-push, AllIn-snoc, slice_get-append, slice_get-push}
 
 -- a directory stands at this number
 abbrev pub HasDir : List LowerNode → ℕ → Type 0

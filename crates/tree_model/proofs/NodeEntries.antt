@@ -1,11 +1,11 @@
--- The entries of a directory among nodes, with one more node.
-use Rattle.std.proofs.Common.{◌≡◌, ℕ, zero, suc, ◌+◌, ◌<◌, ◌≢◌, true, false, cond, eqb, List, [], ◌∷◌, ◌++◌, length, Some, refl, ap, ◌∙◌, arith, eq-eqb}
+-- The entries of a directory among nodes, with one more node, and what is shown of a node.
+use Rattle.std.proofs.Common.{◌≡◌, ℕ, zero, suc, ◌+◌, ◌<◌, ◌≤◌, ◌≢◌, true, false, cond, eqb, List, [], ◌∷◌, ◌++◌, length, Some, None, refl, ap, ◌∙◌, arith, eq-eqb}
 use Rattle.std.specs.Prelude.{slice_get}
 use Rattle.std.specs.List.{AllByRecursion}
 use Rattle.std.proofs.lemmas.Bool.{ne_eqb}
 use Rattle.std.proofs.lemmas.List.{append-nil}
 use Rattle.lower_model.specs.declared.node.LowerNode.{LowerNode}
-use Rattle.tree_model.specs.Shown.{entries_in}
+use Rattle.tree_model.specs.Shown.{entries_in, place_of, places_of}
 
 entries_in-append : (k n : ℕ) (xs ys : List LowerNode) → entries_in k n (xs ++ ys) ≡ entries_in k n xs ++ entries_in k (n + length xs) ys
 entries_in-append k n [] ys = let e : n ≡ n + 0 = omega arith in ap (λ (m : ℕ). entries_in k m ys) e
@@ -63,3 +63,19 @@ pub get_append_left : {X : Type 0} (xs ys : List X) (i : ℕ) → i < length xs 
 get_append_left [] ys i lt = absurd (omega arith)
 get_append_left (x ∷ xs) ys zero lt = refl
 get_append_left (x ∷ xs) ys (suc i) lt = get_append_left xs ys i (omega arith)
+
+pub slice_get-none : {X : Type 0} (xs : List X) (i : ℕ) → slice_get xs i ≡ None → length xs ≤ i
+slice_get-none [] i h = omega arith
+slice_get-none (x ∷ xs) zero h = absurd cc
+slice_get-none (x ∷ xs) (suc i) h = (let r = slice_get-none xs i h in omega arith)
+
+-- what is shown of a node, by its number
+pub slice_get-places_of : (entries : List LowerNode) (from k : ℕ) (nodes : List LowerNode) (x : LowerNode) → slice_get nodes k ≡ Some x → slice_get (places_of entries from nodes) k ≡ Some (place_of entries (from + k) x.kind)
+slice_get-places_of entries from k [] x h = absurd cc
+slice_get-places_of entries from zero (y ∷ nodes) x h =
+    let e : from ≡ from + 0 = omega arith in
+    let same : y ≡ x = cc in
+    rw (same, ← e) refl
+slice_get-places_of entries from (suc k) (y ∷ nodes) x h =
+    let e : from + suc k ≡ from + 1 + k = omega arith in
+    rw e (slice_get-places_of entries (from + 1) k nodes x h)

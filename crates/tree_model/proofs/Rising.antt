@@ -1,5 +1,5 @@
 -- Names that rise in octet order.
-use Rattle.std.proofs.Common.{◌≡◌, ℕ, true, false, List, [], ◌∷◌, ◌++◌, None, refl, sym, ap, subst, ◌∙◌, append_assoc}
+use Rattle.std.proofs.Common.{◌≡◌, ℕ, false, List, [], ◌∷◌, ◌++◌, None, refl, sym, ap, subst, ◌∙◌, append_assoc}
 use Rattle.std.specs.Prelude.{IsTrue}
 use Rattle.std.specs.List.{AllByRecursion}
 use Rattle.std.specs.Ordering.{nat_cmp, is_eq, ordering_reverse}
@@ -8,7 +8,7 @@ use Rattle.std.specs.Cmp.Lexicographic.{slice_cmp, nat_list_cmp_total}
 use Rattle.std.proofs.lemmas.List.{append-nil}
 use Rattle.lower_model.specs.Name.{is_name}
 use Rattle.lower_model.specs.LowerTree.{comes_before}
-use Rattle.tree_model.specs.Names.{is_named, node_of, put_entry, RisesBehind}
+use Rattle.tree_model.specs.Names.{is_named, entry_at, node_of, put_entry, RisesBehind}
 use Rattle.tree_model.specs.Shown.{put_entries}
 use Rattle.tree_model.proofs.NameLemmas.{before_less, before_trans}
 
@@ -18,18 +18,17 @@ greater a b h = nat_list_cmp_total.antisymm b a ∙ ap ordering_reverse (before_
 is_named-before : (a b : List ℕ) → IsTrue (comes_before a b) → is_named a b ≡ false
 is_named-before a b h = ap is_eq (before_less a b h)
 
-is_named-behind : (a b : List ℕ) → IsTrue (comes_before a b) → is_named b a ≡ false
+pub is_named-behind : (a b : List ℕ) → IsTrue (comes_before a b) → is_named b a ≡ false
 is_named-behind a b h = ap is_eq (greater a b h)
 
 -- ---- names behind one
 
-absent_before : (a b : List ℕ) (es : List (List ℕ × ℕ)) → IsTrue (comes_before a b) → RisesBehind b es → node_of a es ≡ None
+absent_before : {X : Type 0} (a b : List ℕ) (es : List (List ℕ × X)) → IsTrue (comes_before a b) → RisesBehind b es → entry_at a es ≡ None
 absent_before a b [] p h = refl
-absent_before a b (e ∷ es) p h =
-    let q = before_trans a b e.0 p h.0 in
-    rw (is_named-before a e.0 q) (absent_before a e.0 es q h.2)
+absent_before a b (e ∷ es) p h = let q = before_trans a b e.0 p h.0 in rw (is_named-before a e.0 q) (absent_before a e.0 es q h.2)
 
-pub absent_itself : (a : List ℕ) (es : List (List ℕ × ℕ)) → RisesBehind a es → node_of a es ≡ None
+-- a name that others rise behind isn't one of them
+pub absent_itself : {X : Type 0} (a : List ℕ) (es : List (List ℕ × X)) → RisesBehind a es → entry_at a es ≡ None
 absent_itself a [] h = refl
 absent_itself a (e ∷ es) h = rw (is_named-before a e.0 h.0) (absent_before a e.0 es h.0 h.2)
 

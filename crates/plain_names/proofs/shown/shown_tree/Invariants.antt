@@ -1,6 +1,0 @@
-use Rattle.std.proofs.Common.{◌≡◌}
-use Rattle.plain_names.proofs.Places.{entered_places}
-use Rattle.plain_names.proofs.shown.shown_tree.Given as goal
-
-abbrev pub invariant-loop-number : goal.invariant-loop-number
-invariant-loop-number l = l.tree ≡ record { limit = l.limit; places = entered_places l.number l.nodes }
