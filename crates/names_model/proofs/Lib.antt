@@ -1,0 +1,3 @@
+pub mod FilesFit
+mod ShownByOther
+mod WorkedLeaves
