@@ -1,0 +1,10 @@
+pub mod AtName
+pub mod Steps
+pub mod Views
+pub mod Inside
+pub mod Rising
+pub mod States
+pub mod Below
+pub mod Replaced
+pub mod Named
+pub mod Changed

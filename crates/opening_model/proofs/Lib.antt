@@ -1,0 +1,10 @@
+pub mod OpenDirs
+pub mod TreeFacts
+pub mod Rising
+pub mod StoreFacts
+pub mod Filling
+pub mod Sound
+pub mod Stages
+pub mod Opened
+pub mod Openings
+pub mod ByPath

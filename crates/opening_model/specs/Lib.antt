@@ -1,0 +1,4 @@
+pub mod InTurn
+pub mod Filled
+pub mod Stage
+pub mod Openings
