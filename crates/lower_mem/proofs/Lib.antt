@@ -1,0 +1,17 @@
+pub mod Entries
+pub mod Stores
+pub mod Conditions
+pub mod Moved
+pub mod Calls
+pub mod ShownPlaces
+pub mod ShownStore
+pub mod Storing
+pub mod Opens
+pub mod Traced
+pub mod Kept
+pub mod Carried
+pub mod Laying
+pub mod Tallies
+pub mod Parts
+pub mod StoreTrees
+pub mod OneFile

@@ -1,0 +1,5 @@
+pub mod Plan
+pub mod Names
+pub mod Bodies
+pub mod Making
+pub mod Laid

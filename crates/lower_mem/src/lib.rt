@@ -1,0 +1,18 @@
+//! The lower parts of a mount in memory, some of whose calls may be made to fail.
+#![tactic(auto)]
+
+mod bodies;
+mod changes;
+mod maker;
+mod names;
+mod places;
+mod plan;
+mod shown;
+mod split;
+#[cfg(test)]
+mod tests;
+mod united;
+
+pub use bodies::{MemBodies, StoredFile};
+pub use maker::{MemFails, MemMaker};
+pub use names::MemNames;
