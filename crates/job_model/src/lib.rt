@@ -5,5 +5,5 @@ mod job;
 mod limits;
 
 pub use job::{Job, NameCoding};
-pub use limits::{LONGEST_PASSPHRASE, LONGEST_PLAIN_NAME, MOST_ITEMS, MOST_OCTETS, MOST_SESSIONS};
+pub use limits::{LONGEST_PASSPHRASE, MOST_ITEMS, MOST_OCTETS, MOST_SESSIONS};
 pub use lower_model::MetaPlace;

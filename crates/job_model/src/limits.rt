@@ -9,6 +9,3 @@ pub const MOST_SESSIONS: usize = 16;
 
 /// The most items of a schedule.
 pub const MOST_ITEMS: usize = 1_048_576;
-
-/// The most octets of a name in a mount with plain names.
-pub const LONGEST_PLAIN_NAME: usize = 255;

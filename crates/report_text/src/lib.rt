@@ -1,5 +1,5 @@
 //! Writes the report of a run: the replies of each session, the tree's history, and the image of
-//! the lower tree after the run; and the show text of an image.
+//! the lower tree after the run or the part that failed; and the show text of an image.
 #![tactic(auto)]
 
 mod entry;
@@ -8,5 +8,5 @@ mod reply;
 mod report;
 mod show;
 
-pub use report::write_report;
+pub use report::{write_report, write_stuck};
 pub use show::{put_show_end, put_show_head, put_show_item, write_show};

@@ -2,17 +2,23 @@ ghost use Rattle.std.specs.Prelude.{◌≡◌, ◌∷◌, ◌++◌, [], map, IfO
 ghost use Rattle.std.specs.List.{flat_map};
 ghost use Rattle.text_model.specs.Line.{line, number};
 ghost use Rattle.job_model.specs.JobText.{image_text};
-ghost use Rattle.served_model.specs.ReportText.{reply_line, session_text, sessions_text, entry_line, tree_text, report_text};
+ghost use Rattle.served_model.specs.ReportText.{reply_line, session_text, sessions_text, entry_line, tree_text, stuck_line, end_text, report_head, stuck_text, report_text};
 
 use crate::entry::put_entry_line;
 use crate::reply::put_reply_line;
 use line_writer::{put_line_end, put_number, put_space, put_word};
 use lower_image::write_image;
-use lower_model::LowerTree;
+use served_model::ReportEnd;
 use session::Session;
 use session_model::{Reply, TreeEntry};
 use std::alloc::{AllocError, Global};
 use turn_lock::Chain;
+
+fn put_report_head(out: &mut Vec<u8>) -> Result<(), AllocError>
+    ensures { OnOk result (out.new.items ≡ out.old.items ++ report_head) }
+{
+    put_word(out, "ecryptfs-report 1\n")
+}
 
 // A line of a word and how many of them follow.
 fn put_count_line(out: &mut Vec<u8>, word: &str, count: usize) -> Result<(), AllocError>
@@ -77,27 +83,65 @@ fn put_image(out: &mut Vec<u8>, octets: &[u8]) -> Result<(), AllocError>
     put_line_end(out)
 }
 
+// The line of a part that failed, with its counts of faults before and after.
+fn put_stuck(out: &mut Vec<u8>, part: u32, before: u64, after: u64) -> Result<(), AllocError>
+    ensures { OnOk result (out.new.items ≡ out.old.items ++ stuck_line part before after) }
+{
+    put_word(out, "stuck ")?;
+    put_number(out, part as u64)?;
+    put_space(out)?;
+    put_number(out, before)?;
+    put_space(out)?;
+    put_number(out, after)?;
+    put_line_end(out)
+}
+
+fn put_end(alloc: Global, out: &mut Vec<u8>, end: &ReportEnd) -> Result<(), AllocError>
+    ensures { OnOk result (out.new.items ≡ out.old.items ++ end_text end.now) }
+{
+    match end {
+        ReportEnd::Image(tree) => {
+            put_image(out, &write_image(alloc, tree)?)?;
+            put_word(out, "end\n")
+        }
+        ReportEnd::Stuck {
+            part,
+            before,
+            after,
+        } => put_stuck(out, *part, *before, *after),
+    }
+}
+
 /// The text of a report: the replies of each session, by the sessions' numbers, the tree's
-/// history, which is read from its chain without a copy, and the lower tree after the run.
+/// history, which is read from its chain without a copy, and how the run ended.
 pub fn write_report(
     alloc: Global,
     sessions: &[Session],
     tree_log: &Chain<TreeEntry>,
-    image: &LowerTree,
+    end: &ReportEnd,
 ) -> Result<Vec<u8>, AllocError>
     ensures { IfOk result (λ out. out.items ≡ report_text (record {
       sessions = map (λ s. s.replies) sessions.now;
       histories = record { tree = tree_log.now; file = [] };
-      image = image.now;
+      end = end.now;
     })) }
 {
-    let octets = write_image(alloc, image)?;
     let entries = tree_log.entries(alloc)?;
     let mut out = Vec::new(alloc);
-    put_word(&mut out, "ecryptfs-report 1\n")?;
+    put_report_head(&mut out)?;
     put_sessions(&mut out, sessions)?;
     put_tree(&mut out, &entries)?;
-    put_image(&mut out, &octets)?;
-    put_word(&mut out, "end\n")?;
+    put_end(alloc, &mut out, end)?;
+    Ok(out)
+}
+
+/// The whole output where nothing was mounted: the part that failed, with its counts of faults
+/// before and after.
+pub fn write_stuck(alloc: Global, part: u32, before: u64, after: u64) -> Result<Vec<u8>, AllocError>
+    ensures { IfOk result (λ out. out.items ≡ stuck_text part before after) }
+{
+    let mut out = Vec::new(alloc);
+    put_report_head(&mut out)?;
+    put_stuck(&mut out, part, before, after)?;
     Ok(out)
 }

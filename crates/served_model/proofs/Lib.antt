@@ -1,2 +1,2 @@
-mod NoFaults
 mod ReportValues
+mod Tallies

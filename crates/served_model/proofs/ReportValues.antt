@@ -13,7 +13,8 @@ use Rattle.session_model.specs.declared.entry.TreeEntry.{TreeEntry}
 use Rattle.session_model.specs.declared.reply.Reply.TheVariants.{Tree, File, Opened, Slot, Memory}
 use Rattle.session_model.specs.declared.file.FileReply.TheVariants as files
 use Rattle.packet_model.specs.declared.cause.BadCause.TheVariants as causes
-use Rattle.served_model.specs.ReportText.{Report, report_text, entry_line, reply_line}
+use Rattle.served_model.specs.declared.end.ReportEnd.TheVariants.{Image, Stuck}
+use Rattle.served_model.specs.ReportText.{Report, report_text, stuck_text, entry_line, reply_line}
 
 -- ---- a directory `a` is made below an empty root, and listed
 
@@ -39,7 +40,7 @@ entry_of_list = refl
 abbrev root : LowerNode
 root = record { parent = 0; kind = kinds.Dir; name = []; attribute = None; body = [] }
 
-nothing_run : report_text (record { sessions = [] ∷ []; histories = record { tree = []; file = [] }; image = root ∷ [] })
+nothing_run : report_text (record { sessions = [] ∷ []; histories = record { tree = []; file = [] }; end = Image (root ∷ []) })
     ≡ codes "ecryptfs-report 1\nsession 0 0\ntree 0\nimage 12\nECRYIMG1" ++ 0 ∷ 0 ∷ 0 ∷ 0 ∷ [] ++ codes "\nend\n"
 unfolding digits
 nothing_run = refl
@@ -51,7 +52,7 @@ abbrev two_calls : Report
 two_calls = record {
   sessions = (Tree replies.Done ∷ Tree names_of_root ∷ []) ∷ [];
   histories = record { tree = made_a ∷ listed_root ∷ []; file = [] };
-  image = root ∷ directory_a ∷ [];
+  end = Image (root ∷ directory_a ∷ []);
 }
 
 made_and_listed : report_text two_calls
@@ -59,6 +60,19 @@ made_and_listed : report_text two_calls
     ++ 0 ∷ 0 ∷ 0 ∷ 1 ∷ 0 ∷ 1 ∷ 0 ∷ 1 ∷ 97 ∷ [] ++ codes "\nend\n"
 unfolding digits
 made_and_listed = refl
+
+-- ---- runs of which a part failed
+
+-- the part of bodies with number 0 can't be written back
+not_unmounted : report_text (record { sessions = [] ∷ []; histories = record { tree = []; file = [] }; end = Stuck 1 0 2 })
+    ≡ codes "ecryptfs-report 1\nsession 0 0\ntree 0\nstuck 1 0 2\n"
+unfolding digits
+not_unmounted = refl
+
+-- the image can't be split
+not_split : stuck_text 9 0 1 ≡ codes "ecryptfs-report 1\nstuck 9 0 1\n"
+unfolding digits
+not_split = refl
 
 -- ---- other replies
 

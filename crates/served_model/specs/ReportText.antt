@@ -1,7 +1,6 @@
 -- The one spelling of a report.
 use Rattle.std.specs.Prelude.{ℕ, ◌+◌, List, [], ◌∷◌, ◌++◌, length, map, codes}
 use Rattle.std.specs.List.{flat_map}
-use Rattle.lower_model.specs.declared.node.LowerNode.{LowerNode}
 use Rattle.lower_model.specs.declared.kind.Kind.{Kind}
 use Rattle.lower_model.specs.declared.kind.Kind.TheVariants as kinds
 use Rattle.tree_model.specs.declared.call.Shown.{Shown}
@@ -22,6 +21,8 @@ use Rattle.field_model.specs.CauseText.{cause_fields}
 use Rattle.field_model.specs.NodeText.{kind_letter, data_field}
 use Rattle.text_model.specs.Line.{line, number, name, path}
 use Rattle.job_model.specs.JobText.{image_text}
+use Rattle.served_model.specs.declared.end.ReportEnd.{ReportEnd}
+use Rattle.served_model.specs.declared.end.ReportEnd.TheVariants.{Image, Stuck}
 
 abbrev pub refusal_word : TreeRefusal → List ℕ
 refusal_word NameLong = codes "namelong"
@@ -103,16 +104,27 @@ sessions_text session (replies ∷ sessions) = session_text session replies ++ s
 abbrev pub tree_text : List TreeEntry → List ℕ
 tree_text log = line (codes "tree" ∷ number (length log) ∷ []) ++ flat_map entry_line log
 
--- What a report tells: the replies of each session, the tree's history, and the lower tree after the run. No script has calls on files yet, so no file has a history.
+-- the line of a part that failed: its number, and its counts of faults before and after
+abbrev pub stuck_line : ℕ → ℕ → ℕ → List ℕ
+stuck_line part before after = line (codes "stuck" ∷ number part ∷ number before ∷ number after ∷ [])
+
+-- what stands behind the histories
+abbrev pub end_text : ReportEnd → List ℕ
+end_text (Image nodes) = image_text (image nodes) ++ line (codes "end" ∷ [])
+end_text (Stuck part before after) = stuck_line part before after
+
+-- What a report tells: the replies of each session, the tree's history, and how the run ended. No script has calls on files yet, so no file has a history.
 pub record Report : Type 0 where
   pub sessions : List (List Reply)
   pub histories : Histories
-  pub image : List LowerNode
+  pub end : ReportEnd
+
+abbrev pub report_head : List ℕ
+report_head = line (codes "ecryptfs-report" ∷ codes "1" ∷ [])
+
+-- the whole output where nothing was mounted
+abbrev pub stuck_text : ℕ → ℕ → ℕ → List ℕ
+stuck_text part before after = report_head ++ stuck_line part before after
 
 abbrev pub report_text : Report → List ℕ
-report_text r =
-    line (codes "ecryptfs-report" ∷ codes "1" ∷ [])
-    ++ sessions_text 0 r.sessions
-    ++ tree_text r.histories.tree
-    ++ image_text (image r.image)
-    ++ line (codes "end" ∷ [])
+report_text r = report_head ++ sessions_text 0 r.sessions ++ tree_text r.histories.tree ++ end_text r.end

@@ -1,6 +1,6 @@
 -- Histories one behind another.
-use Rattle.std.proofs.Common.{◌≡◌, List, [], ◌∷◌, ◌++◌, refl, subst}
-use Rattle.session_model.specs.Legal.{Counts, IsLegal, JoinsUp}
+use Rattle.std.proofs.Common.{◌≡◌, ℕ, List, [], ◌∷◌, ◌++◌, refl, sym, subst, ◌∙◌}
+use Rattle.session_model.specs.Legal.{Counts, IsLegal, CountsFrom}
 
 -- what leads to b and from b on leads to c
 pub IsLegal-append : {S E : Type 0} → (IsTurn : S → E → S → Type 0) (a b c : S) (xs ys : List E) → IsLegal IsTurn a xs b → IsLegal IsTurn b ys c → IsLegal IsTurn a (xs ++ ys) c
@@ -12,7 +12,7 @@ pub IsLegal-push : {S E : Type 0} → (IsTurn : S → E → S → Type 0) (a b c
 IsLegal-push IsTurn a b c log e first turn = IsLegal-append IsTurn a b c log (e ∷ []) first (c, turn, refl)
 
 -- one turn more, whose count begins where the last one's ended
-pub JoinsUp-push : {E : Type 0} → (counts : E → Counts) (log : List E) (last e : E) → JoinsUp counts (log ++ last ∷ []) → (counts e).before ≡ (counts last).after → JoinsUp counts ((log ++ last ∷ []) ++ e ∷ [])
-JoinsUp-push counts [] last e joins next = (next, tt)
-JoinsUp-push counts (x ∷ []) last e joins next = (joins.0, (next, tt))
-JoinsUp-push counts (x ∷ y ∷ log) last e joins next = (joins.0, JoinsUp-push counts (y ∷ log) last e joins.1 next)
+pub CountsFrom-push : {E : Type 0} → (counts : E → Counts) (first mid last : ℕ) (log : List E) (e : E) → CountsFrom counts first log mid → (counts e).before ≡ mid → (counts e).after ≡ last
+    → CountsFrom counts first (log ++ e ∷ []) last
+CountsFrom-push counts first mid last [] e so_far begins ends = (begins ∙ so_far, sym ends)
+CountsFrom-push counts first mid last (x ∷ log) e so_far begins ends = (so_far.0, CountsFrom-push counts (counts x).after mid last log e so_far.1 begins ends)

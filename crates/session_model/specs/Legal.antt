@@ -11,8 +11,7 @@ pub record Counts : Type 0 where
   pub before : ℕ
   pub after : ℕ
 
--- each count begins where the one of the turn before ended
-abbrev pub JoinsUp : {E : Type 0} → (E → Counts) → List E → Type 0
-JoinsUp counts [] = Unit {0}
-JoinsUp counts (e ∷ []) = Unit {0}
-JoinsUp counts (e ∷ f ∷ log) = ((counts f).before ≡ (counts e).after) × JoinsUp counts (f ∷ log)
+-- The first turn's count begins at first, each later one's where that of the turn before ended, and the last one's ends at last.
+abbrev pub CountsFrom : {E : Type 0} → (E → Counts) → ℕ → List E → ℕ → Type 0
+CountsFrom counts first [] last = last ≡ first
+CountsFrom counts first (e ∷ log) last = ((counts e).before ≡ first) × CountsFrom counts (counts e).after log last

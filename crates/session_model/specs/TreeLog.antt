@@ -1,13 +1,12 @@
 -- Which lists of turns a plain tree could have had.
 use Rattle.std.specs.Prelude.{ℕ, ◌≡◌, ◌≤◌, List}
-use Rattle.std.specs.List.{AllByRecursion}
 use Rattle.answer_model.specs.Count.{Rose}
 use Rattle.tree_model.specs.declared.call.TreeCall.{TreeCall}
 use Rattle.tree_model.specs.declared.call.TreeReply.{TreeReply}
 use Rattle.tree_model.specs.declared.call.TreeReply.TheVariants as replies
 use Rattle.tree_model.specs.PlainTree.{PlainTree, IsNoRefusal, step}
 use Rattle.session_model.specs.declared.entry.TreeEntry.{TreeEntry}
-use Rattle.session_model.specs.Legal.{Counts, IsLegal, JoinsUp}
+use Rattle.session_model.specs.Legal.{Counts, IsLegal, CountsFrom}
 
 -- The call may answer this, and the tree goes on from old to new: by the step, or unchanged for want of memory or for a fault that the count shows.
 abbrev pub Turns : TreeReply → TreeCall → ℕ → ℕ → PlainTree → PlainTree → Type 0
@@ -22,11 +21,7 @@ pub record IsTurn (old : PlainTree) (e : TreeEntry) (new : PlainTree) : Type 0 w
 abbrev pub counts_of : TreeEntry → Counts
 counts_of e = record { before = e.before; after = e.after }
 
--- In these turns no fault was counted.
-abbrev pub AreFaultless : List TreeEntry → Type 0
-AreFaultless log = AllByRecursion (λ (e : TreeEntry). (e.before ≡ 0) × (e.after ≡ 0)) log
-
--- The log of a plain tree, which leads from old to new.
-pub record IsTreeLog (old : PlainTree) (log : List TreeEntry) (new : PlainTree) : Type 0 where
+-- The log of a plain tree, which leads from old to new, while the count of faults goes from first to last.
+pub record IsTreeLog (old : PlainTree) (first : ℕ) (log : List TreeEntry) (new : PlainTree) (last : ℕ) : Type 0 where
   pub legal : IsLegal IsTurn old log new
-  pub counts : JoinsUp counts_of log
+  pub counts : CountsFrom counts_of first log last

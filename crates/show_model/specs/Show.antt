@@ -10,7 +10,7 @@ use Rattle.key_model.specs.PassphraseKey.{passphrase_key, key_signature}
 use Rattle.key_model.specs.SignedKey.{SignedKey}
 use Rattle.content_model.specs.Content.{IsContent}
 use Rattle.content_model.specs.declared.content.Content.{Content}
-use Rattle.job_model.specs.declared.limits.TheConstants.{LONGEST_PLAIN_NAME}
+use Rattle.names_model.specs.declared.limits.TheConstants.{LONGEST_PLAIN_NAME}
 use Rattle.job_model.specs.declared.job.Job.{Job}
 use Rattle.show_model.specs.declared.item.ShowItem.{ShowItem}
 use Rattle.show_model.specs.declared.item.ShowWhat.{ShowWhat}
