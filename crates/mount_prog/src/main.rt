@@ -3,6 +3,7 @@
 
 mod streams;
 
+use lower_mem::{MemFails, MemMaker};
 use mount_run::{MEMORY, OK, USAGE, run_alone, status_name};
 use std::process::ExitCode;
 use std::{env, io};
@@ -17,6 +18,14 @@ fn words(rt: &HostRuntime) -> io::Result<Vec<String>> {
     Ok(words)
 }
 
+/// A maker of lower parts in memory, none of whose calls fails.
+fn maker(rt: &HostRuntime) -> MemMaker {
+    MemMaker::new(MemFails {
+        maker: Vec::new(rt.alloc()),
+        names: Vec::new(rt.alloc()),
+    })
+}
+
 /// Does what the command line says.
 fn status(rt: &HostRuntime) -> u8 {
     match words(rt) {
@@ -25,6 +34,7 @@ fn status(rt: &HostRuntime) -> u8 {
             &words,
             &mut StdSource::new(rt),
             &mut StdSink::new(rt),
+            &mut maker(rt),
         ),
         Err(error) if error.kind() == io::ErrorKind::OutOfMemory => MEMORY,
         Err(_) => USAGE,

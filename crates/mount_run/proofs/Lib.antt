@@ -1,5 +1,8 @@
 pub mod Commands
-pub mod LoggedTurns
+pub mod Faultless
+pub mod GoingOn
+pub mod Leaving
+pub mod Mounting
 pub mod Moves
 pub mod Serving
 pub mod ShownLines

@@ -1,13 +1,17 @@
 ghost use Rattle.std.specs.Prelude.{◌≡◌, [], IfOk, Err};
 ghost use Rattle.job_model.specs.declared.job.Job.{Job as JobValue};
+ghost use Rattle.job_model.specs.Job.{IsJob, IsServedSoFar};
 ghost use Rattle.job_model.specs.JobText.{IsJobText, IsNoJob};
-ghost use Rattle.mount_run.specs.InputAndOutput.{Promises};
+ghost use Rattle.mount_run.specs.InputAndOutput.{maker_of, Writes};
 
+use crate::output::Output;
 use crate::serve::serve;
 use crate::show::show;
+use crate::status::OK;
 use crate::words::Command;
 use job_text::{Job, JobError, read_job};
-use std::alloc::Global;
+use lower_tree::LowerMaker;
+use std::alloc::{AllocError, Global};
 
 // The job with this text, and the room in which the text stood.
 fn job_of(alloc: Global, octets: Vec<u8>) -> Result<(Job, Vec<u8>), JobError>
@@ -21,20 +25,47 @@ fn job_of(alloc: Global, octets: Vec<u8>) -> Result<(Job, Vec<u8>), JobError>
     Ok((job, room))
 }
 
-/// The output of a command for the job with this text; `Bad` exactly where the octets are the text of none.
-pub fn answer(alloc: Global, command: Command, octets: Vec<u8>) -> Result<Vec<u8>, JobError>
-    ensures answered { IfOk result (λ output. (job : JobValue) × IsJobText job octets.items × Promises command job output.items) }
-    ensures bad { result ≡ Err JobError.Bad → IsNoJob octets.items }
+// The output of a command for a job, which may be written into this room.
+fn output_of<M: LowerMaker>(
+    alloc: Global,
+    command: Command,
+    job: Job,
+    room: Vec<u8>,
+    lower: &mut M,
+) -> Result<Output, AllocError>
+    requires lawful { IsJob job }
+    requires served { IsServedSoFar job }
+    requires empty { room.items ≡ [] }
+    ensures shows { command ≡ Command.Show → lower.new ≡ lower.old }
+    ensures writes { IfOk result (λ out. Writes command job (maker_of M.tells M.count M.tally_of lower.old) (maker_of M.tells M.count M.tally_of lower.new) out.status out.text.items) }
 {
-    let (job, room) = job_of(alloc, octets)?;
-    let output = match command {
+    match command {
         Command::Replay => {
             drop(room);
-            serve(alloc, job)
+            serve(alloc, job, lower)
         }
-        Command::Show => show(alloc, &job, room),
-    };
-    match output {
+        Command::Show => Ok(Output {
+            status: OK,
+            text: show(alloc, &job, room)?,
+        }),
+    }
+}
+
+/// The output of a command for the job with this text; `Bad` exactly where the octets are the text of none. Without a job, and for `Show`,
+/// the maker is left as it was.
+pub fn answer<M: LowerMaker>(
+    alloc: Global,
+    command: Command,
+    octets: Vec<u8>,
+    lower: &mut M,
+) -> Result<Output, JobError>
+    ensures answered { IfOk result (λ out. (job : JobValue) × IsJobText job octets.items × Writes command job (maker_of M.tells M.count M.tally_of lower.old) (maker_of M.tells M.count M.tally_of lower.new) out.status out.text.items) }
+    ensures bad { result ≡ Err JobError.Bad → IsNoJob octets.items }
+    ensures untouched { result ≡ Err JobError.Bad → lower.new ≡ lower.old }
+    ensures shows { command ≡ Command.Show → lower.new ≡ lower.old }
+{
+    let (job, room) = job_of(alloc, octets)?;
+    match output_of(alloc, command, job, room, lower) {
         Ok(output) => Ok(output),
         Err(_) => Err(JobError::Memory),
     }

@@ -2,8 +2,10 @@
 #![tactic(auto)]
 
 mod answer;
-mod logged_tree;
 mod memory;
+mod mount;
+mod mounted_tree;
+mod output;
 mod ring;
 mod run;
 mod serve;
@@ -16,4 +18,4 @@ mod words;
 pub use memory::{MemSink, MemSource};
 pub use run::run_alone;
 pub use source_and_sink::{Failed, Sink, Source};
-pub use status::{BAD_JOB, MEMORY, OK, READ_FAULT, USAGE, WRITE_FAULT, status_name};
+pub use status::{BAD_JOB, LOWER_FAULT, MEMORY, OK, READ_FAULT, USAGE, WRITE_FAULT, status_name};

@@ -2,19 +2,21 @@ ghost use Rattle.std.specs.Prelude.{◌≡◌, ◌∷◌, [], length, IfOk};
 ghost use Rattle.std.specs.List.{AllByRecursion};
 ghost use Rattle.script_model.specs.Script.{IsTreeScript};
 ghost use Rattle.job_model.specs.Job.{IsJob};
-ghost use Rattle.served_model.specs.Served.{Served};
+ghost use Rattle.mount_run.specs.declared.words.Command.TheVariants.{Replay};
+ghost use Rattle.mount_run.specs.InputAndOutput.{maker_of, Writes};
 
-use crate::logged_tree::LoggedTree;
-use job_model::LONGEST_PLAIN_NAME;
+use crate::mount::{MountError, Mounted, mount, status_of, unmount};
+use crate::mounted_tree::MountedTree;
+use crate::output::Output;
+use crate::status::LOWER_FAULT;
 use job_text::Job;
 use lower_model::Items;
-use plain_names::{carrying_tree, shown_tree};
-use report_text::write_report;
+use lower_tree::{LowerMaker, Parts};
+use report_text::{write_report, write_stuck};
 use script_model::Op;
 use session::{Script, Session};
 use session_run::run_session;
 use std::alloc::{AllocError, Global};
-use turn_lock::Chain;
 
 // The one script.
 fn only_script(scripts: Items<Items<Op>>) -> Vec<Op>
@@ -28,21 +30,38 @@ fn only_script(scripts: Items<Items<Op>>) -> Vec<Op>
     }
 }
 
-/// The report of a job with one session, whose script runs on the tree that the image shows.
-pub fn serve(alloc: Global, job: Job) -> Result<Vec<u8>, AllocError>
+/// The report of a job with one session, whose script runs on the tree of the image, over parts that the maker splits off
+/// and unites; or that of a run that a failure of the maker or of the names ended.
+pub fn serve<M: LowerMaker>(alloc: Global, job: Job, lower: &mut M) -> Result<Output, AllocError>
     requires lawful { IsJob job }
     requires one_session { length job.scripts ≡ 1 }
     requires tree_calls { AllByRecursion IsTreeScript job.scripts }
-    ensures { IfOk result (λ report. Served job report.items) }
+    ensures { IfOk result (λ out. Writes Replay job (maker_of M.tells M.count M.tally_of lower.old) (maker_of M.tells M.count M.tally_of lower.new) out.status out.text.items) }
 {
     let Job { image, scripts, .. } = job;
-    let tree = shown_tree(alloc, &image, LONGEST_PLAIN_NAME)?;
     let session = Session::new(alloc, 0, Script::new(only_script(scripts)))?;
-    let mut mount = LoggedTree {
-        tree,
-        log: Chain::new(),
+    let Mounted { names, bodies } = match mount(alloc, lower, image) {
+        Ok(mounted) => mounted,
+        Err(
+            MountError::Stuck {
+                part,
+                before,
+                after,
+            },
+        ) => {
+            return Ok(Output {
+                status: LOWER_FAULT,
+                text: write_stuck(alloc, part, before, after)?,
+            });
+        }
+        Err(MountError::Memory) => return Err(AllocError),
     };
-    let session = run_session(alloc, &mut mount, session);
-    let after = carrying_tree(alloc, &mount.tree, &image)?;
-    write_report(alloc, &[session], &mount.log, &after)
+    let mut tree = MountedTree { names };
+    let session = run_session(alloc, &mut tree, session);
+    let (names, _, log) = tree.names.end();
+    let end = unmount(alloc, lower, Parts { names, bodies })?;
+    Ok(Output {
+        status: status_of(&end),
+        text: write_report(alloc, &[session], &log, &end)?,
+    })
 }

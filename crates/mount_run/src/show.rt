@@ -8,10 +8,10 @@ use extent_file::decode_body;
 use job_text::Job;
 use lower_model::{Kind, LowerNode};
 use packet_set::OneKeyRing;
-use plain_names::listed_paths;
 use report_text::{put_show_end, put_show_head, put_show_item};
 use show_model::{ShowItem, ShowWhat};
 use std::alloc::{AllocError, Global};
+use tree_listing::listed_paths;
 use tree_model::Path;
 
 // What stands at a node, a file with its content.

@@ -19,6 +19,9 @@ pub const READ_FAULT: u8 = 4;
 /// The output couldn't be written to its end.
 pub const WRITE_FAULT: u8 = 5;
 
+/// A lower part failed where the run couldn't go on without it.
+pub const LOWER_FAULT: u8 = 6;
+
 /// What a status other than `OK` is called on standard error.
 pub fn status_name(status: u8) -> &'static str
     ensures { result.now ≡ status_word status }
@@ -30,6 +33,7 @@ pub fn status_name(status: u8) -> &'static str
         BAD_JOB => "bad job",
         READ_FAULT => "read fault",
         WRITE_FAULT => "write fault",
+        LOWER_FAULT => "lower fault",
         _ => "unknown",
     }
 }

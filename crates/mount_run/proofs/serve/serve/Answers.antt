@@ -1,37 +1,73 @@
-use Rattle.std.proofs.Common.{◌≡◌, List, [], ap, sym, ◌∙◌, subst}
+use Rattle.std.proofs.Common.{◌≡◌, ℕ, List, [], map, ap, sym, ◌∙◌, subst}
+use Rattle.name_tag70.proofs.SameNames.{plain_form}
+use Rattle.names_model.specs.NameForm.{NameForm, plain}
+use Rattle.names_model.proofs.FilesFit.{files_fit}
+use Rattle.namespace_model.specs.Carried.{Keeps}
+use Rattle.lower_model.specs.declared.kind.Kind.TheVariants as kinds
+use Rattle.lower_model.specs.LowerTree.{HoldsOctets}
+use Rattle.names_model.specs.LowerPaths.{LowerFile}
+use Rattle.lower_tree.specs.Held.{HeldBodies}
 use Rattle.session_model.specs.declared.entry.TreeEntry.{TreeEntry}
 use Rattle.session_model.specs.Session.{Session, Member, fresh}
 use Rattle.session_run.specs.Made.{HasRun}
 use Rattle.served_model.specs.ReportText.{report_text}
-use Rattle.served_model.specs.Served.{Served}
-use Rattle.mount_run.proofs.LoggedTurns.{IsCalmLog, calm_start}
-use Rattle.mount_run.proofs.Serving.{RanScript, if_ok, ran_script, report_of, served_one}
+use Rattle.mount_run.specs.declared.words.Command.TheVariants.{Replay}
+use Rattle.mount_run.specs.InputAndOutput.{maker_of, Writes}
+use Rattle.mount_run.specs.Mounted.{IsTakenDown}
+use Rattle.mount_run.specs.GoesOn.{GoesOn}
+use Rattle.mount_run.proofs.GoingOn.{goes_on_none}
+use Rattle.mount_run.proofs.Serving.{IsRun, ran_script, report_of, writes}
+use Rattle.mount_run.proofs.Mounting.{parts_of}
 use Rattle.mount_run.proofs.serve.serve.Goals as goal
 
+pub unmount-requires-clause-allowed : goal.unmount-requires-clause-allowed
+unmount-requires-clause-allowed g c tells tell =
+    let held = g.M.N.LowerNames.held in
+    let m = c.in-Ok.ensures in
+    let now = c.run_session-session.new.tree.names in
+    let lower = ap (λ r. r.0) c.end-names.ensures.parts in
+    let image = m.mounted.tells (sym m.unchanged.tells ∙ tells) in
+    record {
+      names = rw lower (c.end-names.ensures.store (rw lower at tell.names));
+      files = λ k. subst (λ (f : LowerFile). HoldsOctets kinds.File f.attribute f.body) (sym (image.hold.files k)) (files_fit c.args.job.image image.hold.lawful k);
+    }
+
 pub returns : goal.returns
-returns c =
+returns g c =
+    let held = g.M.N.LowerNames.held in
     let job = c.args.job in
     let script = c.only_script.result.items in
-    let start = c.in_ok-tree.tree in
-    let end = c.run_session-session.new.tree.tree in
-    let log = c.run_session-session.new.tree.log in
+    let before = maker_of g.M.LowerMaker.tells g.M.LowerMaker.count g.M.LowerMaker.tally_of c.args.lower.now in
+    let mounted = maker_of g.M.LowerMaker.tells g.M.LowerMaker.count g.M.LowerMaker.tally_of c.mount.new.lower in
+    let after = maker_of g.M.LowerMaker.tells g.M.LowerMaker.count g.M.LowerMaker.tally_of c.unmount.new.lower in
+    let m = c.in-Ok.ensures in
+    let opening = c.in-Ok.mounted.names in
+    let now = c.run_session-session.new.tree.names in
+    let bodies : List HeldBodies = map g.M.B.LowerBodies.held c.in-Ok.mounted.bodies.items in
+    let ended = c.end-names.ensures in
+    let log = now.log in
     let replies = c.run_session-session.result.replies in
-    let image = c.in_ok-after.after in
-    let none = c.new-3.result in
-    let begins : IsCalmLog start none start = subst (λ (l : List TreeEntry). IsCalmLog start l start) (sym c.new-3.ensures) (calm_start start) in
-    let calm : IsCalmLog start log end = c.run_session-session.ensures.lawful (record { tree = start; log = none }) begins in
-    let began : c.in_ok-session.session.session ≡ fresh 0 script = ap (λ (m : Member). m.session) c.in_ok-session.ensures ∙ ap (fresh 0) c.new.ensures in
-    let ran_session : HasRun (fresh 0 script) none log replies = subst (λ (s : Session). HasRun s none log replies) began c.run_session-session.ensures.runs in
-    let runs : HasRun (fresh 0 script) [] log replies = subst (λ (l : List TreeEntry). HasRun (fresh 0 script) l log replies) c.new-3.ensures ran_session in
-    let ran : RanScript job script start end replies log image = record {
+    let end = c.in_ok-end.end in
+    let so_far : GoesOn held plain opening now = subst (λ (form : NameForm). GoesOn held form opening now) plain_form (c.run_session-session.ensures.lawful (record { names = opening }) (goes_on_none held _ opening m.log)) in
+    let began : c.in_ok-session.session.session ≡ fresh 0 script = ap (λ (s : Member). s.session) c.in_ok-session.ensures ∙ ap (fresh 0) c.new.ensures in
+    let ran_session : HasRun (fresh 0 script) [] log replies =
+    subst (λ (l : List TreeEntry). HasRun (fresh 0 script) l log replies) m.log (subst (λ (s : Session). HasRun s opening.log log replies) began c.run_session-session.ensures.runs) in
+    let lower = ap (λ r. r.0) ended.parts in
+    let logged : c.end-names.result.2 ≡ log = ap (λ r. r.2) ended.parts in
+    let down : IsTakenDown mounted after (parts_of (held now.lower) bodies) end = rw lower at c.in_ok-end.ensures in
+    let run : IsRun job script before mounted after (held opening.lower) (held now.lower) bodies opening.tree opening.kept now.tree now.kept log replies end = record {
       one = c.only_script.ensures;
-      is_shown = c.in_ok-tree.ensures;
-      history = calm.0;
-      no_faults = calm.1;
-      calls = ran_script script log replies runs;
-      lawful = c.in_ok-after.ensures.lawful;
-      carries = c.in_ok-after.ensures.carried;
-      kept = c.in_ok-after.ensures.kept;
+      is_mounted = m.mounted;
+      unchanged = m.unchanged;
+      history = so_far.history;
+      calls = ran_script script log replies ran_session;
+      told = so_far.told;
+      tree = ended.tree;
+      keeps = λ tells. subst (λ (form : NameForm). Keeps form now.tree.places now.kept (held now.lower).entries) plain_form (ended.keeps tells);
+      stays = so_far.stays;
+      down = down;
     } in
-    if_ok c.write_report.result (λ out. out.items ≡ report_text (report_of replies log image)) (λ out. Served job out.items) c.write_report.ensures
-    (λ out text. served_one job script start end replies log image out.items ran text)
+    let text = c.in_ok-write_report.field-0.items in
+    let spelled : text ≡ report_text (report_of replies log end) = c.in_ok-write_report.ensures ∙ ap (λ (l : List TreeEntry). report_text (report_of replies l end)) logged in
+    subst (λ (s : ℕ). Writes Replay job before after s text) (sym c.status_of.ensures)
+    (writes job script before mounted after (held opening.lower) (held now.lower) bodies opening.tree opening.kept now.tree now.kept log replies end run text spelled)

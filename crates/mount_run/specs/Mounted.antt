@@ -1,0 +1,72 @@
+-- How a lower tree is mounted, and how it is taken down again.
+use Rattle.std.specs.Prelude.{ℕ, ◌≡◌, ◌⊎◌, true, List}
+use Rattle.answer_model.specs.Count.{Rose}
+use Rattle.lower_model.specs.declared.node.LowerNode.{LowerNode}
+use Rattle.lower_model.specs.LowerTree.{IsLowerTree}
+use Rattle.tree_model.specs.PlainTree.{PlainTree}
+use Rattle.tree_model.specs.IsTree.{IsTree}
+use Rattle.names_model.specs.NameForm.{plain}
+use Rattle.names_model.specs.LowerPaths.{tree_paths}
+use Rattle.opening_model.specs.Openings.{ShowsTree}
+use Rattle.lower_tree.specs.Held.{HeldParts, TellAll, HoldTree, paths_held}
+use Rattle.lower_tree.specs.Making.{AreFresh, AddsFaults}
+use Rattle.served_model.specs.declared.end.ReportEnd.{ReportEnd}
+use Rattle.served_model.specs.declared.end.ReportEnd.TheVariants.{Image, Stuck}
+use Rattle.served_model.specs.declared.end.TheConstants.{MAKER_PART}
+use Rattle.served_model.specs.ReportText.{stuck_text}
+use Rattle.served_model.specs.Served.{Maker, IsStuckAtSplit, IsStuckAtOpening}
+use Rattle.mount_run.specs.declared.mount.MountError.{MountError}
+use Rattle.mount_run.specs.declared.mount.MountError.TheVariants as errors
+use Rattle.mount_run.specs.declared.status.TheConstants.{OK, LOWER_FAULT}
+
+-- The maker counts what it did.
+pub record IsUnchanged (before after : Maker) : Type 0 where
+  pub tells : after.tells ≡ before.tells
+  pub faults : after.faults ≡ before.faults
+  pub tallies : (part : ℕ) → after.tallies part ≡ before.tallies part
+
+-- The parts tell that they hold the tree of the image, and the plain tree over them is what the image shows.
+pub record TellsImage (image : List LowerNode) (parts : HeldParts) (tree : PlainTree) (kept : List (List ℕ)) : Type 0 where
+  pub tell : TellAll parts
+  pub hold : HoldTree parts image
+  pub shows : ShowsTree plain parts.names.entries tree kept
+
+-- The parts of an image are mounted: no call on them has failed, and as far as the maker tells they hold the image's tree.
+pub record IsMounted (maker : Maker) (image : List LowerNode) (parts : HeldParts) (tree : PlainTree) (kept : List (List ℕ)) : Type 0 where
+  pub fresh : AreFresh parts
+  pub is_tree : IsTree tree.places
+  pub limit : tree.limit ≡ plain.longest
+  pub tells : maker.tells ≡ true → TellsImage image parts tree kept
+
+-- the maker failed to split the image, or its names to be opened
+abbrev pub FailsToMount : Maker → Maker → MountError → Type 0
+FailsToMount before after (errors.Stuck part first last) = IsStuckAtSplit before after (stuck_text part first last) ⊎ IsStuckAtOpening before after (stuck_text part first last)
+FailsToMount before after errors.Memory = Unit {0}
+
+-- The maker united the parts: to the tree that they held, as far as they and the maker tell it.
+pub record IsUnited (before after : Maker) (parts : HeldParts) (image : List LowerNode) : Type 0 where
+  pub lawful : IsLowerTree image
+  pub same : before.tells ≡ true → TellAll parts → (path : List (List ℕ)) → tree_paths image path ≡ paths_held parts path
+  pub calm : after.faults ≡ before.faults
+
+-- or it failed
+pub record FailsToUnite (before after : Maker) (part first last : ℕ) : Type 0 where
+  pub part_is : part ≡ MAKER_PART
+  pub first_is : first ≡ before.faults
+  pub last_is : last ≡ after.faults
+  pub rose : Rose before.faults after.faults
+
+abbrev pub EndsAs : Maker → Maker → HeldParts → ReportEnd → Type 0
+EndsAs before after parts (Image image) = IsUnited before after parts image
+EndsAs before after parts (Stuck part first last) = FailsToUnite before after part first last
+
+-- The parts were given back to the maker, and this is the end of the report.
+pub record IsTakenDown (before after : Maker) (parts : HeldParts) (end : ReportEnd) : Type 0 where
+  pub tells : after.tells ≡ before.tells
+  pub counted : AddsFaults parts before.tallies after.tallies
+  pub ends : EndsAs before after parts end
+
+-- the status of a report that ends so
+abbrev pub status_of : ReportEnd → ℕ
+status_of (Image image) = OK
+status_of (Stuck part first last) = LOWER_FAULT

@@ -1,0 +1,118 @@
+ghost use Rattle.std.specs.Prelude.{◌≡◌, ℕ, [], true, length, IfOk, IfErr};
+ghost use Rattle.lower_tree.specs.Held.{TellAll, stores};
+ghost use Rattle.lower_tree.specs.Making.{held_parts, HoldSomeTree};
+ghost use Rattle.mount_run.specs.InputAndOutput.{maker_of};
+ghost use Rattle.mount_run.specs.Mounted.{IsUnchanged, IsMounted, FailsToMount, IsTakenDown, status_of};
+
+use crate::status::{LOWER_FAULT, OK};
+use lower_model::LowerTree;
+use lower_tree::{LowerError, LowerMaker, LowerNames, Parts};
+use name_tag70::PlainNames;
+use namespace::{Names, NamesFault};
+use served_model::{MAKER_PART, NAMES_PART, ReportEnd};
+use std::alloc::{AllocError, Global};
+
+/// A lower tree that is mounted.
+#[derive(Drop)]
+pub struct Mounted<N: LowerNames, B> {
+    /// The tree over its names.
+    pub names: Names<N, PlainNames>,
+    /// Its stores of bodies.
+    pub bodies: Vec<B>,
+}
+
+/// Why a lower tree isn't mounted.
+#[derive(Debug, Drop)]
+pub enum MountError {
+    /// A part failed: its number, and its counts of faults before and after.
+    Stuck {
+        /// The number of the part.
+        part: u32,
+        /// The count before.
+        before: u64,
+        /// The count after, which has risen.
+        after: u64,
+    },
+    /// Memory ran out.
+    Memory,
+}
+
+/// Mounts a lower tree. After an error the maker has all parts back.
+pub fn mount<M: LowerMaker>(
+    alloc: Global,
+    lower: &mut M,
+    image: LowerTree,
+) -> Result<Mounted<M::N, M::B>, MountError>
+    ensures mounted { IfOk result (λ m. IsMounted (maker_of M.tells M.count M.tally_of lower.old) image (held_parts M.N.held M.B.held m.names.lower m.bodies.items) m.names.tree m.names.kept) }
+    ensures log { IfOk result (λ m. m.names.log ≡ []) }
+    ensures unchanged { IfOk result (λ m. IsUnchanged (maker_of M.tells M.count M.tally_of lower.old) (maker_of M.tells M.count M.tally_of lower.new)) }
+    ensures fails { IfErr result (FailsToMount (maker_of M.tells M.count M.tally_of lower.old) (maker_of M.tells M.count M.tally_of lower.new)) }
+{
+    let before = lower.faults();
+    let parts = match lower.split(alloc, image) {
+        Ok(parts) => parts,
+        Err(LowerError::Failed) => {
+            return Err(MountError::Stuck {
+                part: MAKER_PART,
+                before,
+                after: lower.faults(),
+            });
+        }
+        Err(LowerError::Memory) => return Err(MountError::Memory),
+    };
+    let Parts { names, bodies } = parts;
+    match Names::new(alloc, names, PlainNames) {
+        Ok(names) => Ok(Mounted { names, bodies }),
+        Err(
+            NamesFault::Lower {
+                lower: names,
+                before,
+                after,
+                ..
+            },
+        ) => {
+            lower.take_back(Parts { names, bodies });
+            Err(MountError::Stuck {
+                part: NAMES_PART,
+                before,
+                after,
+            })
+        }
+        Err(NamesFault::Memory { lower: names, .. }) => {
+            lower.take_back(Parts { names, bodies });
+            Err(MountError::Memory)
+        }
+    }
+}
+
+/// Takes the parts of a mount down: the end of the report.
+pub fn unmount<M: LowerMaker>(
+    alloc: Global,
+    lower: &mut M,
+    parts: Parts<M::N, M::B>,
+) -> Result<ReportEnd, AllocError>
+    requires stores { length parts.bodies.items ≡ stores }
+    requires allowed { M.tells lower.old ≡ true → TellAll (held_parts M.N.held M.B.held parts.names parts.bodies.items) → HoldSomeTree (held_parts M.N.held M.B.held parts.names parts.bodies.items) }
+    ensures { IfOk result (IsTakenDown (maker_of M.tells M.count M.tally_of lower.old) (maker_of M.tells M.count M.tally_of lower.new) (held_parts M.N.held M.B.held parts.names parts.bodies.items)) }
+{
+    let before = lower.faults();
+    match lower.unite(alloc, parts) {
+        Ok(tree) => Ok(ReportEnd::Image(tree)),
+        Err(LowerError::Failed) => Ok(ReportEnd::Stuck {
+            part: MAKER_PART,
+            before,
+            after: lower.faults(),
+        }),
+        Err(LowerError::Memory) => Err(AllocError),
+    }
+}
+
+/// The status of a run whose report ends so.
+pub fn status_of(end: &ReportEnd) -> u8
+    ensures { result ≡ status_of end.now }
+{
+    match end {
+        ReportEnd::Image(_) => OK,
+        ReportEnd::Stuck { .. } => LOWER_FAULT,
+    }
+}

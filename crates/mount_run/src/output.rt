@@ -1,0 +1,8 @@
+/// The output of a command, and the exit status that it is answered with.
+#[derive(Debug, Drop)]
+pub struct Output {
+    /// `OK`, or `LOWER_FAULT` where a lower part failed.
+    pub status: u8,
+    /// The text to be written.
+    pub text: Vec<u8>,
+}
