@@ -1,4 +1,4 @@
-use crate::run::{EMPTY_IMAGE, failing_run, job, run};
+use crate::run::{EMPTY_IMAGE, FAULTLESS, Failing, failing_run, job, maker, run};
 use mount_run::{
     BAD_JOB, MemSink, MemSource, READ_FAULT, USAGE, WRITE_FAULT, run_alone, status_name,
 };
@@ -10,7 +10,11 @@ fn a_read_that_fails_in_mid_stream(rt: HostRuntime) -> Result<(), Fail> {
     let lines = ["list /"; 600];
     for call in 1..4 {
         let octets = job(alloc, EMPTY_IMAGE, &lines)?;
-        let (status, written) = failing_run(alloc, "replay", octets, &[call], &[])?;
+        let failing = Failing {
+            reads: &[call],
+            ..FAULTLESS
+        };
+        let (status, written, _) = failing_run(alloc, "replay", octets, failing)?;
         assert_eq!(rt; status, READ_FAULT, "read {call}");
         assert!(rt; written.is_empty());
     }
@@ -24,7 +28,11 @@ fn a_write_that_fails_leaves_a_front(rt: HostRuntime) -> Result<(), Fail> {
     let (_, whole) = run(alloc, "replay", job(alloc, EMPTY_IMAGE, &lines)?)?;
     for (call, len) in [(1, 0), (2, 4096), (3, 8192)] {
         let octets = job(alloc, EMPTY_IMAGE, &lines)?;
-        let (status, written) = failing_run(alloc, "replay", octets, &[], &[call])?;
+        let failing = Failing {
+            writes: &[call],
+            ..FAULTLESS
+        };
+        let (status, written, _) = failing_run(alloc, "replay", octets, failing)?;
         assert_eq!(rt; status, WRITE_FAULT);
         assert_eq!(rt; written.len(), len);
         assert!(rt; whole.starts_with(&written));
@@ -61,7 +69,9 @@ fn words_that_are_no_command(rt: HostRuntime) -> Result<(), Fail> {
     for words in [none, twice] {
         let mut input = MemSource::new(Vec::new(alloc), Vec::new(alloc));
         let mut output = MemSink::new(Vec::new(alloc));
-        assert_eq!(rt; run_alone(alloc, &words, &mut input, &mut output), USAGE);
+        let mut lower = maker(alloc, FAULTLESS)?;
+        let status = run_alone(alloc, &words, &mut input, &mut output, &mut lower);
+        assert_eq!(rt; status, USAGE);
     }
     Ok(())
 }
@@ -75,9 +85,10 @@ fn the_names_of_the_statuses(rt: HostRuntime) {
         "bad job",
         "read fault",
         "write fault",
+        "lower fault",
         "unknown",
     ];
-    for (status, name) in (0u8..7).zip(names) {
+    for (status, name) in (0u8..8).zip(names) {
         assert_eq!(rt; status_name(status), name);
     }
 }

@@ -1,10 +1,17 @@
-//! Whole runs, tested by the public calls of `mount_run` alone: printed texts, faults one at a time, and the largest tree.
+//! Whole runs, tested by the public calls of `mount_run`: printed texts, faults one at a time, and the largest tree; and the tree over
+//! lower names in memory, under a form in which two lower names may stand for one upper name.
 #![tactic(auto)]
 
 #[cfg(test)]
 mod faults;
 #[cfg(test)]
+mod foreign;
+#[cfg(test)]
+mod lower_faults;
+#[cfg(test)]
 mod replay;
+#[cfg(test)]
+mod report;
 #[cfg(test)]
 mod run;
 #[cfg(test)]

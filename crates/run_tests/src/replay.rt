@@ -1,6 +1,13 @@
+use crate::report::assert_replies;
 use crate::run::{EMPTY_IMAGE, job, run};
-use mount_run::OK;
+use mount_run::{BAD_JOB, OK};
+use std::alloc::{AllocError, Global};
 use std::test::Fail;
+
+/// A directory `d` with a file `x` that has an attribute, an empty directory `e`, and a file `f`: the nodes 1 to 4.
+const SMALL_IMAGE: &[u8] = b"ECRYIMG1\x00\x00\x00\x04\x00\x01\x00\x01d\
+    \x00\x02\x01\x01x\x01\x00\x00\x00\x02at\x00\x00\x00\x04body\
+    \x00\x01\x00\x01e\x00\x01\x01\x01f\x00\x00\x00\x00\x01f";
 
 #[test]
 fn the_report_of_no_operations(rt: HostRuntime) -> Result<(), Fail> {
@@ -43,69 +50,229 @@ fn the_report_of_each_reply(rt: HostRuntime) -> Result<(), Fail> {
     Ok(())
 }
 
-// The same image. A file is moved, a directory is moved onto another, and what is removed is gone;
-// each refusal that isn't told above comes once.
+// With the first test that fails where several do.
 #[test]
-fn entries_are_moved_and_removed(rt: HostRuntime) -> Result<(), Fail> {
-    let alloc = rt.alloc();
-    let image =
-        b"ECRYIMG1\x00\x00\x00\x01\x00\x01\x01\x01f\x01\x00\x00\x00\x02at\x00\x00\x00\x04body";
+fn each_refusal_of_each_call(rt: HostRuntime) -> Result<(), Fail> {
     let lines = [
-        "mkdir /a",
-        "rename /f /a/g",
-        "rmdir /a",
-        "unlink /a",
-        "rename /a /a/b",
-        "mkdir /c",
-        "rename /a /c",
-        "stat /c/g",
-        "stat /",
-        "rename /c /c/g",
-        "rename /c/g /c",
-        "unlink /c/x",
-        "list /",
+        ("mkdir /n/o", "err notfound"),
+        ("mkdir /f/o", "err notdir"),
+        ("mkdir /f/o/p", "err notdir"),
+        ("mkdir /", "err isroot"),
+        ("mkdir /d", "err exists"),
+        ("mkdir /f", "err exists"),
+        ("rmdir /n", "err notfound"),
+        ("rmdir /f", "err notdir"),
+        ("rmdir /f/n", "err notdir"),
+        ("rmdir /", "err isroot"),
+        ("rmdir /d", "err notempty"),
+        ("unlink /n", "err notfound"),
+        ("unlink /f/n", "err notdir"),
+        ("unlink /d", "err isdir"),
+        ("unlink /", "err isdir"),
+        ("list /n", "err notfound"),
+        ("list /f", "err notdir"),
+        ("list /f/n", "err notdir"),
+        ("stat /n", "err notfound"),
+        ("stat /f/n", "err notdir"),
     ];
-    let (status, report) = run(alloc, "replay", job(alloc, image, &lines)?)?;
-    assert_eq!(rt; status, OK);
-    let wanted = b"ecryptfs-report 1\nsession 0 13\n\
-        ok\nok\nerr notempty\nerr isdir\nerr inside\nok\nok\nok f 1\nok d 0\nerr notdir\nerr isdir\nerr notfound\nnames d:c\ntree 13\n\
-        0 0 0 0 mkdir /a = ok\n0 1 0 0 rename /f /a/g = ok\n0 2 0 0 rmdir /a = err notempty\n\
-        0 3 0 0 unlink /a = err isdir\n0 4 0 0 rename /a /a/b = err inside\n0 5 0 0 mkdir /c = ok\n\
-        0 6 0 0 rename /a /c = ok\n0 7 0 0 stat /c/g = ok f 1\n0 8 0 0 stat / = ok d 0\n\
-        0 9 0 0 rename /c /c/g = err notdir\n0 10 0 0 rename /c/g /c = err isdir\n\
-        0 11 0 0 unlink /c/x = err notfound\n0 12 0 0 list / = names d:c\n\
-        image 37\nECRYIMG1\x00\x00\x00\x02\x00\x01\x00\x01c\
-        \x00\x02\x01\x01g\x01\x00\x00\x00\x02at\x00\x00\x00\x04body\nend\n";
-    assert_eq!(rt; report.as_slice(), wanted.as_slice());
+    assert_replies(&rt, rt.alloc(), SMALL_IMAGE, &lines, SMALL_IMAGE)
+}
+
+#[test]
+fn each_refusal_of_rename(rt: HostRuntime) -> Result<(), Fail> {
+    let lines = [
+        ("rename /n /o", "err notfound"),
+        ("rename /f /n/o", "err notfound"),
+        ("rename /n /f/o/p", "err notfound"),
+        ("rename /f/n /o", "err notdir"),
+        ("rename /f/n /o/p", "err notdir"),
+        ("rename /e /f/n", "err notdir"),
+        ("rename /d /f", "err notdir"),
+        ("rename /d /d/x", "err notdir"),
+        ("rename / /f", "err notdir"),
+        ("rename / /n", "err isroot"),
+        ("rename / /d", "err isroot"),
+        ("rename /f /", "err isroot"),
+        ("rename /e /", "err isroot"),
+        ("rename /f /e", "err isdir"),
+        ("rename /d/x /d", "err isdir"),
+        ("rename /d /d/n", "err inside"),
+        ("rename /e /e/n", "err inside"),
+        ("rename /e /d", "err notempty"),
+    ];
+    assert_replies(&rt, rt.alloc(), SMALL_IMAGE, &lines, SMALL_IMAGE)
+}
+
+// To where they are, onto empty directories and other files, into other directories and to other names.
+#[test]
+fn entries_are_moved(rt: HostRuntime) -> Result<(), Fail> {
+    let lines = [
+        ("rename /d /d", "ok"),
+        ("rename /f /f", "ok"),
+        ("rename /e /e", "ok"),
+        ("list /d", "names f:x"),
+        ("rename /d /e", "ok"),
+        ("list /", "names d:e f:f"),
+        ("stat /e/x", "ok f 2"),
+        ("rename /f /e/x", "ok"),
+        ("stat /e/x", "ok f 4"),
+        ("rename /e/x /g", "ok"),
+        ("mkdir /h", "ok"),
+        ("rename /g /h", "err isdir"),
+        ("rename /h /g", "err notdir"),
+        ("rename /h /e/h", "ok"),
+        ("rename /e /e/h", "err inside"),
+        ("rename /e/h /e", "err notempty"),
+        ("rename /e /b", "ok"),
+        ("stat /e", "err notfound"),
+        ("stat /b/h", "ok d 5"),
+        ("list /b", "names d:h"),
+    ];
+    let behind = b"ECRYIMG1\x00\x00\x00\x03\x00\x01\x00\x01b\x00\x02\x00\x01h\
+        \x00\x01\x01\x01g\x00\x00\x00\x00\x01f";
+    assert_replies(&rt, rt.alloc(), SMALL_IMAGE, &lines, behind)
+}
+
+#[test]
+fn a_directory_onto_itself_and_onto_another(rt: HostRuntime) -> Result<(), Fail> {
+    let image = b"ECRYIMG1\x00\x00\x00\x02\x00\x01\x00\x01a\x00\x01\x00\x01b";
+    let lines = [
+        ("rename /a /a/x", "err inside"),
+        ("rename /a /a", "ok"),
+        ("rename /a /b", "ok"),
+        ("rename /b /b", "ok"),
+        ("rmdir /", "err isroot"),
+        ("unlink /", "err isdir"),
+    ];
+    let behind = b"ECRYIMG1\x00\x00\x00\x01\x00\x01\x00\x01b";
+    assert_replies(&rt, rt.alloc(), image, &lines, behind)
+}
+
+// A file is removed, and the directory that it was in; numbers of nodes don't come back.
+#[test]
+fn entries_are_removed(rt: HostRuntime) -> Result<(), Fail> {
+    let lines = [
+        ("unlink /d/x", "ok"),
+        ("list /d", "names"),
+        ("rmdir /d", "ok"),
+        ("rmdir /e", "ok"),
+        ("unlink /f", "ok"),
+        ("list /", "names"),
+        ("mkdir /d", "ok"),
+        ("stat /d", "ok d 5"),
+    ];
+    let behind = b"ECRYIMG1\x00\x00\x00\x01\x00\x01\x00\x01d";
+    assert_replies(&rt, rt.alloc(), SMALL_IMAGE, &lines, behind)
+}
+
+// No line has a name of more than 255 octets.
+#[test]
+fn the_longest_name(rt: HostRuntime) -> Result<(), Fail> {
+    let alloc = rt.alloc();
+    let name = String::from_utf8(Vec::from_elem(alloc, b'n', 255)?)?;
+    let mut behind = Vec::from_slice(alloc, b"ECRYIMG1\x00\x00\x00\x01\x00\x01\x00\xff")?;
+    behind.extend_from_slice(name.as_bytes())?;
+    let line = format!(in alloc; "mkdir /{name}")?;
+    assert_replies(&rt, alloc, EMPTY_IMAGE, &[(&line, "ok")], &behind)?;
+    let line = format!(in alloc; "mkdir /{name}n")?;
+    let (status, _) = run(alloc, "replay", job(alloc, EMPTY_IMAGE, &[&line])?)?;
+    assert_eq!(rt; status, BAD_JOB);
     Ok(())
 }
 
-// Each directory in the one before; no more can be made.
+/// Adds a directory at this level to an image.
+fn put_directory(image: &mut Vec<u8>, level: u16, name: &str) -> Result<(), AllocError> {
+    image.extend_from_slice(&level.to_be_bytes())?;
+    image.extend_from_slice(&[0, name.len().min(255) as u8])?;
+    image.extend_from_slice(name.as_bytes())
+}
+
+/// The path of so many parts `d`.
+fn deep_path(alloc: Global, levels: usize) -> Result<String, AllocError> {
+    let mut path = String::new(alloc);
+    for _ in 0..levels {
+        path.push_str("/d")?;
+    }
+    Ok(path)
+}
+
+// Each directory in the one before; no more can be made. The lowest is moved to the root.
 #[test]
 fn as_many_levels_as_there_are_nodes(rt: HostRuntime) -> Result<(), Fail> {
     let alloc = rt.alloc();
     let mut image = Vec::from_slice(alloc, b"ECRYIMG1\x00\x00\x0f\xff")?;
-    for level in 1..4096u16 {
-        image.extend_from_slice(&level.to_be_bytes())?;
-        image.extend_from_slice(b"\x00\x01d")?;
+    let mut behind = image.clone()?;
+    for level in 1..4095 {
+        put_directory(&mut image, level, "d")?;
+        put_directory(&mut behind, level, "d")?;
     }
-    let (status, report) = run(
-        alloc,
-        "replay",
-        job(alloc, &image, &["mkdir /e", "list /"])?,
-    )?;
-    assert_eq!(rt; status, OK);
-    assert!(rt; report.starts_with(b"ecryptfs-report 1\nsession 0 2\nerr nonodes\nnames d:d\n"));
-    let mut wanted = Vec::from_slice(alloc, &image)?;
-    wanted.extend_from_slice(b"\nend\n")?;
-    assert!(rt; report.ends_with(&wanted));
+    put_directory(&mut image, 4095, "d")?;
+    put_directory(&mut behind, 1, "e")?;
+    let lowest = deep_path(alloc, 4095)?;
+    let mkdir = format!(in alloc; "mkdir {lowest}/e")?;
+    let stat = format!(in alloc; "stat {lowest}")?;
+    let list = format!(in alloc; "list {lowest}")?;
+    let inside = format!(in alloc; "rename /d {lowest}/e")?;
+    let outside = format!(in alloc; "rename {lowest} /e")?;
+    let lines = [
+        ("mkdir /e", "err nonodes"),
+        (mkdir.as_str(), "err nonodes"),
+        (stat.as_str(), "ok d 4095"),
+        (list.as_str(), "names"),
+        (inside.as_str(), "err inside"),
+        (outside.as_str(), "ok"),
+        ("list /", "names d:d d:e"),
+    ];
+    assert_replies(&rt, alloc, &image, &lines, &behind)?;
     let (status, text) = run(alloc, "show", job(alloc, &image, &[])?)?;
     assert_eq!(rt; status, OK);
-    let mut last = Vec::from_slice(alloc, b"d 4095 ")?;
-    for _ in 0..4095 {
-        last.extend_from_slice(b"/d")?;
-    }
-    last.extend_from_slice(b"\nend\n")?;
-    assert!(rt; text.ends_with(&last));
+    let last = format!(in alloc; "d 4095 {lowest}\nend\n")?;
+    assert!(rt; text.ends_with(last.as_bytes()));
     Ok(())
+}
+
+// All directories in the root; no more can be made, also where one is removed.
+#[test]
+fn as_many_names_as_there_are_nodes(rt: HostRuntime) -> Result<(), Fail> {
+    let alloc = rt.alloc();
+    let mut image = Vec::from_slice(alloc, b"ECRYIMG1\x00\x00\x0f\xff")?;
+    let mut behind = Vec::from_slice(alloc, b"ECRYIMG1\x00\x00\x0f\xfe")?;
+    let mut list = String::from_str(alloc, "names")?;
+    for number in 1000..5095u16 {
+        let name = format!(in alloc; "{number}")?;
+        put_directory(&mut image, 1, &name)?;
+        list.push_str(&format!(in alloc; " d:{name}")?)?;
+        if number > 1000 {
+            put_directory(&mut behind, 1, &name)?;
+        }
+    }
+    let lines = [
+        ("mkdir /zz", "err nonodes"),
+        ("list /", &list),
+        ("stat /5094", "ok d 4095"),
+        ("rename /1000 /zz", "ok"),
+        ("rmdir /zz", "ok"),
+        ("mkdir /zz", "err nonodes"),
+    ];
+    assert_replies(&rt, alloc, &image, &lines, &behind)
+}
+
+// The same directories, made by lines.
+#[test]
+fn as_many_names_are_made_as_there_are_nodes(rt: HostRuntime) -> Result<(), Fail> {
+    let alloc = rt.alloc();
+    let mut behind = Vec::from_slice(alloc, b"ECRYIMG1\x00\x00\x0f\xff")?;
+    let mut texts = Vec::new(alloc);
+    for number in 1000..5095u16 {
+        let name = format!(in alloc; "{number}")?;
+        put_directory(&mut behind, 1, &name)?;
+        texts.push(format!(in alloc; "mkdir /{name}")?)?;
+    }
+    let mut lines = Vec::new(alloc);
+    for text in &texts {
+        lines.push((text.as_str(), "ok"))?;
+    }
+    lines.push(("mkdir /zz", "err nonodes"))?;
+    lines.push(("stat /5094", "ok d 4095"))?;
+    assert_replies(&rt, alloc, EMPTY_IMAGE, &lines, &behind)
 }

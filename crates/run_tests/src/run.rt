@@ -1,3 +1,4 @@
+use lower_mem::{MemFails, MemMaker};
 use mount_run::{MemSink, MemSource, run_alone};
 use std::alloc::{AllocError, Global};
 
@@ -21,23 +22,63 @@ pub fn job(alloc: Global, image: &[u8], lines: &[&str]) -> Result<Vec<u8>, Alloc
     Ok(octets)
 }
 
-/// What a run with this one word answers and writes, where these reads and writes fail.
-pub fn failing_run(
+/// Which calls fail, by their numbers from 1.
+#[derive(Clone, Copy)]
+pub struct Failing<'a> {
+    pub reads: &'a [u64],
+    pub writes: &'a [u64],
+    /// Of the maker: the splits and the unites.
+    pub maker: &'a [u64],
+    /// On the names that the first split makes.
+    pub names: &'a [u64],
+}
+
+/// No call fails.
+pub const FAULTLESS: Failing = Failing {
+    reads: &[],
+    writes: &[],
+    maker: &[],
+    names: &[],
+};
+
+/// A maker whose calls fail so.
+pub fn maker(alloc: Global, failing: Failing) -> Result<MemMaker, AllocError> {
+    Ok(MemMaker::new(MemFails {
+        maker: failing.maker.to_vec(alloc)?,
+        names: failing.names.to_vec(alloc)?,
+    }))
+}
+
+/// What a run with this one word over a maker answers and writes, where reads and writes fail so.
+pub fn run_over(
     alloc: Global,
+    maker: &mut MemMaker,
     word: &str,
     octets: Vec<u8>,
-    reads: &[u64],
-    writes: &[u64],
+    failing: Failing,
 ) -> Result<(u8, Vec<u8>), AllocError> {
     let words = vec![in alloc; String::from_str(alloc, word)?]?;
-    let mut input = MemSource::new(octets, reads.to_vec(alloc)?);
-    let mut output = MemSink::new(writes.to_vec(alloc)?);
-    let status = run_alone(alloc, &words, &mut input, &mut output);
+    let mut input = MemSource::new(octets, failing.reads.to_vec(alloc)?);
+    let mut output = MemSink::new(failing.writes.to_vec(alloc)?);
+    let status = run_alone(alloc, &words, &mut input, &mut output, maker);
     let written = output.written().to_vec(alloc)?;
     Ok((status, written))
 }
 
-/// What a run with this one word answers and writes.
+/// What a run with this one word answers and writes, and its maker behind it.
+pub fn failing_run(
+    alloc: Global,
+    word: &str,
+    octets: Vec<u8>,
+    failing: Failing,
+) -> Result<(u8, Vec<u8>, MemMaker), AllocError> {
+    let mut maker = maker(alloc, failing)?;
+    let (status, written) = run_over(alloc, &mut maker, word, octets, failing)?;
+    Ok((status, written, maker))
+}
+
+/// What a run with this one word answers and writes where no call fails.
 pub fn run(alloc: Global, word: &str, octets: Vec<u8>) -> Result<(u8, Vec<u8>), AllocError> {
-    failing_run(alloc, word, octets, &[], &[])
+    let (status, written, _) = failing_run(alloc, word, octets, FAULTLESS)?;
+    Ok((status, written))
 }
