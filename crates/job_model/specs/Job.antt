@@ -6,7 +6,6 @@ use Rattle.lower_model.specs.LowerTree.{IsLowerTree}
 use Rattle.script_model.specs.Script.{IsScript, IsTreeScript}
 use Rattle.job_model.specs.declared.limits.TheConstants.{LONGEST_PASSPHRASE, MOST_SESSIONS, MOST_ITEMS}
 use Rattle.job_model.specs.declared.job.Job.{Job}
-use Rattle.job_model.specs.declared.job.NameCoding.TheVariants.{Plain}
 
 pub record IsPassphrase (passphrase : List ℕ) : Type 0 where
   pub some : 1 ≤ length passphrase
@@ -30,6 +29,5 @@ pub record IsJob (job : Job) : Type 0 where
 
 -- The jobs that the program serves so far, of all jobs of the format.
 pub record IsServedSoFar (job : Job) : Type 0 where
-  pub plain_names : job.names ≡ Plain
   pub one_session : length job.scripts ≡ 1
   pub tree_calls : AllByRecursion IsTreeScript job.scripts

@@ -4,12 +4,12 @@ use lower_model::{Items, LowerTree, MetaPlace};
 use script_model::Op;
 use std::fmt::{self, Debug, Formatter, Write};
 
-/// How a mount writes new names.
+/// How a mount reads and writes names.
 #[derive(Clone, Copy, Debug, PartialEq, Eq)]
 pub enum NameCoding {
-    /// As they are.
+    /// Each name stands for itself.
     Plain,
-    /// Encrypted, as tag 70 packets.
+    /// They are encrypted, in tag 70 packets.
     Tag70,
 }
 
@@ -22,7 +22,7 @@ pub struct Job {
     pub salt: [u8; 8],
     /// The salt of the name key.
     pub namesalt: [u8; 8],
-    /// How new names are written.
+    /// How names are read and written.
     pub names: NameCoding,
     /// Where new files keep their metadata.
     pub meta_place: MetaPlace,

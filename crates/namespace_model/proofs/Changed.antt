@@ -102,6 +102,7 @@ kept_within t kept dir name node tree there size = subst (λ (n : ℕ). node < n
     within (Some q) e h = slice_get_within t.places node q e
     within None e h = absurd h
 
+-- the lower name that is kept for an entry, whatever stands for one that isn't
 pub kept_at : (t : PlainTree) (kept : List (List ℕ)) (dir : ℕ) (name : List ℕ) (node : ℕ) (d : List ℕ) → IsTree t.places → node_in (slice_get t.places dir) name ≡ Some node → length kept ≡ length t.places → get_or kept node d ≡ get_or kept node []
 kept_at t kept dir name node d tree there size = get_or_any kept node d [] (kept_within t kept dir name node tree there size)
 
@@ -269,6 +270,7 @@ Stays-same form old was before places ps kept ks s z h e f g =
     let same : z ≡ s = λ i j. g j i in
     subst (λ (x : Store). Stays form old was before ps ks x) (sym same) (rw (e, f) h)
 
+-- what changed nothing
 pub stays_still : (form : NameForm) (places : List Place) (kept ks : List (List ℕ)) (s z : Store) → ks ≡ kept → ((j : ℕ) → z j ≡ s j) → Stays form places kept s places ks z
 stays_still form places kept ks s z f g = Stays-same form places kept s places places kept ks s z (record { named = λ opening first h. h; below = λ opening h. h; foreign = λ k. refl }) refl f g
 

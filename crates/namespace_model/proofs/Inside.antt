@@ -25,6 +25,7 @@ first_then : (places : List Place) (a : ℕ) (name : List ℕ) (names : List (Li
 first_then places a name names (Ok n) j e h = (n, refl, h)
 first_then places a name names (Err x) j e h = absurd cc
 
+-- a walk that ends at a node stays where it is, or has a last step
 pub last_step : (places : List Place) (a : ℕ) (path : List (List ℕ)) (j : ℕ) → walk places a path ≡ Ok j → ((path ≡ []) × (a ≡ j)) ⊎ LastStep places a path j
 last_step places a [] j h = inl (refl, cc)
 last_step places a (name ∷ names) j h =

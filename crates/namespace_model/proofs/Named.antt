@@ -3,7 +3,7 @@ use Rattle.std.proofs.Common.{◌≡◌, ◌≢◌, ℕ, ◌<◌, ◌≤◌, Boo
 use Rattle.std.specs.Prelude.{slice_get, slice_set}
 use Rattle.names_model.specs.NameForm.{NameForm, IsWritten}
 use Rattle.names_model.specs.Store.{Store}
-use Rattle.names_model.specs.StoreCalls.{created, taken_from, put_into, CanCreate}
+use Rattle.names_model.specs.StoreCalls.{created, taken_from, put_into}
 use Rattle.names_model.specs.StoreCalls as low
 use Rattle.tree_model.specs.declared.place.Directory.{Directory}
 use Rattle.tree_model.specs.declared.place.Place.{Place}

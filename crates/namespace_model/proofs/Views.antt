@@ -7,7 +7,7 @@ use Rattle.std.proofs.lemmas.Bool.{cases_lt}
 use Rattle.std.proofs.lemmas.Bool.Decides.{eqb_tells}
 use Rattle.names_model.specs.declared.entry.Linked.{Linked}
 use Rattle.names_model.specs.Store.{Store, Entries, linked_at, entries_if}
-use Rattle.names_model.specs.StoreCalls.{created, taken_from, put_into, with_name, without_name, is_node}
+use Rattle.names_model.specs.StoreCalls.{created, taken_from, put_into, without_name}
 use Rattle.names_model.specs.StoreCalls as low
 use Rattle.tree_model.specs.declared.place.Directory.{Directory}
 use Rattle.tree_model.specs.declared.place.Place.{Place}

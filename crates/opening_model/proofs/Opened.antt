@@ -21,6 +21,7 @@ use Rattle.tree_model.specs.declared.place.Place.TheVariants.{Dir, File, Nothing
 use Rattle.tree_model.specs.Names.{node_of, RisesBehind}
 use Rattle.tree_model.specs.IsTree.{IsNode, node_in}
 use Rattle.tree_model.specs.PlainTree.{is_dir, is_this}
+use Rattle.tree_model.specs.Listing.{NumbersRise}
 use Rattle.tree_model.proofs.NameLemmas.{is_named_same, is_named_is}
 use Rattle.plain_tree.proofs.Places.{slice_get-push}
 use Rattle.namespace_model.specs.Carried.{View, view_of, IsForm, IsCarried, Blocks, Keeps, foreign_at, kind_by}
@@ -209,6 +210,10 @@ module _ (form : NameForm) (laws : IsForm form) (nodes : List LowerNode) (facts 
   shown_node k x n h =
       let l = leads_to k x n h in
       (l.of.x, ap (slice_get nodes) (sym l.leads) ∙ l.of.at, subst (λ (j : ℕ). 1 ≤ j) l.leads l.of.behind, subst IsNode (sym (place_by k n x l)) (place_node n l.e.1.kind))
+
+  -- each entry that is shown has a greater number than its directory
+  pub numbers_rise : NumbersRise (shown_so_far (length nodes))
+  numbers_rise k x n h = let l = leads_to k x n h in subst (λ (j : ℕ). k < j) l.leads (entry_above nodes facts k l.e.0 l.e.1 l.of).0
 
   by_kinds : (a b : Bool) → kind_by a ≡ kind_by b → a ≡ b
   by_kinds true true h = refl

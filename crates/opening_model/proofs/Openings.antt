@@ -18,6 +18,7 @@ use Rattle.tree_model.specs.declared.place.Place.{Place}
 use Rattle.tree_model.specs.declared.place.Place.TheVariants.{Dir, Nothing}
 use Rattle.tree_model.specs.PlainTree.{PlainTree, most_nodes, is_dir, empty_directory}
 use Rattle.tree_model.specs.IsTree.{IsNode}
+use Rattle.tree_model.specs.Listing.{NumbersRise}
 use Rattle.names_model.specs.ShownBy.{shown_places}
 use Rattle.opening_model.specs.Stage.{IsStage}
 use Rattle.opening_model.proofs.Sound.{length-shown}
@@ -28,7 +29,7 @@ use Rattle.opening_model.specs.Openings.{IsOpenedTo, EndsBelow, CountsNodes, Sho
 use Rattle.opening_model.proofs.TreeFacts.{facts}
 use Rattle.opening_model.proofs.StoreFacts.{entries_at, IsOf, is_of, is_entry, store_is, entry_above}
 use Rattle.opening_model.proofs.Stages.{stage_begin, stage_dir, stage_listed, stage_skipped, stage_end}
-use Rattle.opening_model.proofs.Opened.{keeps_shown}
+use Rattle.opening_model.proofs.Opened.{keeps_shown, numbers_rise}
 
 -- what a list tells of entries is the entries
 told_back : (es : Entries) → map told (map lower_name es) ≡ es
@@ -93,6 +94,13 @@ module _ (form : NameForm) (laws : IsForm form) (store : Store) where
       let count : length kept ≡ length nodes = size ∙ ap (λ (ps : List Place). length ps) places ∙ length-shown form laws nodes f (length nodes) in
       Keeps-same form (shown_places form (store_of nodes) (length nodes)) t.places kept kept (store_of nodes) store
       (keeps_shown form laws nodes f kept (λ i x le node at. shows.names nodes is i x le (subst (λ (ps : List Place). IsNode (slice_get ps i)) (sym places) node) at) count) places refl is.entries
+
+  -- the numbers of what is shown rise
+  pub shown_rises : (t : PlainTree) (kept : List (List ℕ)) → HoldsTree store → ShowsTree form store t kept → NumbersRise t.places
+  shown_rises t kept holds shows =
+      let nodes : List LowerNode = holds.nodes in
+      let places : t.places ≡ shown_places form (store_of nodes) (length nodes) = ap (λ (x : PlainTree). x.places) (shows.tree nodes holds.is) in
+      subst NumbersRise (sym places) (numbers_rise form laws nodes (facts nodes holds.is.lawful))
 
 -- ---- the number of nodes
 
@@ -285,21 +293,26 @@ module _ (store : Store) where
 IsStoreOf-same : (nodes : List LowerNode) (s t : Store) → ((k : ℕ) → t k ≡ s k) → IsStoreOf nodes t → IsStoreOf nodes s
 IsStoreOf-same nodes s t same is = record { lawful = is.lawful; entries = λ k. sym (same k) ∙ is.entries k }
 
+-- it holds the same lower tree
 pub HoldsTree-same : (s t : Store) → ((k : ℕ) → t k ≡ s k) → HoldsTree s → HoldsTree t
 HoldsTree-same s t same holds = record { nodes = holds.nodes; is = IsStoreOf-same holds.nodes t s (λ k. sym (same k)) holds.is }
 
+-- it is opened as far
 pub IsOpenedTo-same : (form : NameForm) (s t : Store) (k : ℕ) (o : Opened) → ((j : ℕ) → t j ≡ s j) → IsOpenedTo form s k o → IsOpenedTo form t k o
 IsOpenedTo-same form s t k o same opened = record { stage = λ nodes is. opened.stage nodes (IsStoreOf-same nodes s t same is) }
 
+-- its last entries are the same
 pub EndsBelow-same : (s t : Store) (last : ℕ) → ((j : ℕ) → t j ≡ s j) → EndsBelow s last → EndsBelow t last
 EndsBelow-same s t last same ends = record {
   directory = λ nodes is. ends.directory nodes (IsStoreOf-same nodes s t same is);
   below = λ nodes is. ends.below nodes (IsStoreOf-same nodes s t same is);
 }
 
+-- it has as many nodes
 pub CountsNodes-same : (s t : Store) (count : ℕ) → ((j : ℕ) → t j ≡ s j) → CountsNodes s count → CountsNodes t count
 CountsNodes-same s t count same counts = record { counts = λ nodes is. counts.counts nodes (IsStoreOf-same nodes s t same is) }
 
+-- it shows the same tree
 pub ShowsTree-same : (form : NameForm) (s z : Store) (t : PlainTree) (kept : List (List ℕ)) → ((j : ℕ) → z j ≡ s j) → ShowsTree form s t kept → ShowsTree form z t kept
 ShowsTree-same form s z t kept same shows = record {
   tree = λ nodes is. shows.tree nodes (IsStoreOf-same nodes s z same is);
@@ -310,5 +323,6 @@ ShowsTree-same form s z t kept same shows = record {
 pub IsOpenedTo-is : (form : NameForm) (s : Store) (k : ℕ) (o z : Opened) → z ≡ o → IsOpenedTo form s k o → IsOpenedTo form s k z
 IsOpenedTo-is form s k o z same opened = subst (IsOpenedTo form s k) (sym same) opened
 
+-- the same of an equal number
 pub IsOpenedTo-at : (form : NameForm) (s : Store) (k j : ℕ) (o : Opened) → j ≡ k → IsOpenedTo form s k o → IsOpenedTo form s j o
 IsOpenedTo-at form s k j o same opened = subst (λ (i : ℕ). IsOpenedTo form s i o) (sym same) opened

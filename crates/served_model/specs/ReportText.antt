@@ -3,7 +3,7 @@ use Rattle.std.specs.Prelude.{ℕ, ◌+◌, List, [], ◌∷◌, ◌++◌, lengt
 use Rattle.std.specs.List.{flat_map}
 use Rattle.lower_model.specs.declared.kind.Kind.{Kind}
 use Rattle.lower_model.specs.declared.kind.Kind.TheVariants as kinds
-use Rattle.tree_model.specs.declared.call.Shown.{Shown}
+use Rattle.tree_model.specs.DirListing.{Shown}
 use Rattle.tree_model.specs.declared.call.TreeCall.{TreeCall}
 use Rattle.tree_model.specs.declared.call.TreeCall.TheVariants as calls
 use Rattle.tree_model.specs.declared.call.TreeReply.{TreeReply}

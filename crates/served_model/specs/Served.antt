@@ -5,9 +5,9 @@ use Rattle.lower_model.specs.declared.node.LowerNode.{LowerNode}
 use Rattle.lower_model.specs.LowerTree.{IsLowerTree}
 use Rattle.tree_model.specs.PlainTree.{PlainTree}
 use Rattle.tree_model.specs.IsTree.{IsTree}
-use Rattle.names_model.specs.NameForm.{plain}
 use Rattle.names_model.specs.ShownBy.{shown_of}
 use Rattle.names_model.specs.CarriedBy.{Leaves}
+use Rattle.mount_model.specs.MountForm.{form_of_job}
 use Rattle.lower_tree.specs.Making.{sum_of_counts}
 use Rattle.session_model.specs.TreeLog.{IsTreeLog}
 use Rattle.session_model.specs.ScriptCalls.{AreScriptCalls}
@@ -32,11 +32,11 @@ faults_at faults (suc part) = 0
 abbrev pub CountsFaults : Maker → Maker → ℕ → Type 0
 CountsFaults before after faults = (part : ℕ) → after.tallies part ≡ sum_of_counts (before.tallies part) (faults_at faults part)
 
--- A plain tree under plain names is opened: the one that the job's image shows, as far as the maker tells.
+-- A plain tree under the job's form of names is opened: the one that the job's image shows, as far as the maker tells.
 pub record IsOpening (tells : Bool) (job : Job) (start : PlainTree) : Type 0 where
   pub is_tree : IsTree start.places
-  pub limit : start.limit ≡ plain.longest
-  pub shown : tells ≡ true → start ≡ shown_of plain job.image
+  pub limit : start.limit ≡ (form_of_job job).longest
+  pub shown : tells ≡ true → start ≡ shown_of (form_of_job job) job.image
 
 -- The scripts of a job ran, with the histories and replies of this report, and this plain tree is left.
 pub record RanScripts (job : Job) (before after : Maker) (report : Report) (end : PlainTree) : Type 0 where
@@ -61,7 +61,7 @@ pub record Served (job : Job) (before after : Maker) (output : List ℕ) : Type 
   pub image : List LowerNode
   pub prints : report.end ≡ Image image
   pub lawful : IsLowerTree image
-  pub leaves : before.tells ≡ true → Leaves plain job.image end image
+  pub leaves : before.tells ≡ true → Leaves (form_of_job job) job.image end image
   pub calm : after.faults ≡ before.faults
   pub text : output ≡ report_text report
 

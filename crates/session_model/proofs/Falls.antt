@@ -184,6 +184,7 @@ moves_fall s Ends tree file t m = absurd m
 no_move : (s : Session) (doing : Doing) (tree : List TreeEntry) (file : List FileEntry) (t : Told) → doing ≡ Ends → MovesBy s doing tree file t → ⊥
 no_move s doing tree file t e m = subst (λ (d : Doing). MovesBy s d tree file t) e m
 
+-- each move of a session leaves it less work
 pub move_falls : (s : Session) (made : Histories) (t : Told) → Moves s made t → work t.session < work s
 move_falls s made t m =
     let most = moves_fall (asked s).session (asked s).doing made.tree made.file t m in

@@ -8,7 +8,7 @@ use Rattle.packet_model.specs.declared.cause.BadCause.TheVariants.{Short, Marker
 use Rattle.content_model.specs.declared.content.Content.TheVariants.{Empty, Good, Bad}
 use Rattle.show_model.specs.declared.item.ShowItem.{ShowItem}
 use Rattle.show_model.specs.declared.item.ShowWhat.{ShowWhat}
-use Rattle.show_model.specs.declared.item.ShowWhat.TheVariants.{Dir, File}
+use Rattle.show_model.specs.declared.item.ShowWhat.TheVariants.{Dir, File, Foreign}
 use Rattle.show_model.specs.ShowText.{item_line, show_text}
 
 abbrev file : ℕ → List (List ℕ) → ShowWhat → ShowItem
@@ -50,3 +50,9 @@ two_signatures = refl
 short_data : bad (ShortData 12287 12288) ≡ codes "f 1 /f bad shortdata 12287 12288\n"
 unfolding digits encode_with
 short_data = refl
+
+a_foreign_entry :
+    show_text (file 1 (codes "a" ∷ []) Dir ∷ file 2 (codes "a" ∷ []) (Foreign (codes "x")) ∷ file 3 [] (Foreign (codes "y z")) ∷ [])
+    ≡ codes "ecryptfs-show 1\nd 1 /a\nx 2 /a/x\nx 3 /y%20z\nend\n"
+unfolding digits encode_with
+a_foreign_entry = refl

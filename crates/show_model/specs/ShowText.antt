@@ -6,13 +6,20 @@ use Rattle.content_model.specs.declared.content.Content.{Content}
 use Rattle.content_model.specs.declared.content.Content.TheVariants.{Empty, Good, Bad}
 use Rattle.show_model.specs.declared.item.ShowItem.{ShowItem}
 use Rattle.show_model.specs.declared.item.ShowWhat.{ShowWhat}
-use Rattle.show_model.specs.declared.item.ShowWhat.TheVariants.{Dir, File}
+use Rattle.show_model.specs.declared.item.ShowWhat.TheVariants.{Dir, File, Foreign}
 use Rattle.field_model.specs.CauseText.{cause_fields}
 use Rattle.field_model.specs.NodeText.{data_field}
 
 abbrev pub kind_letter : ShowWhat → List ℕ
 kind_letter Dir = codes "d"
 kind_letter (File content) = codes "f"
+kind_letter (Foreign lower) = codes "x"
+
+-- the path from the root to an item: that of a foreign entry ends with its lower name
+abbrev pub path_to : List (List ℕ) → ShowWhat → List (List ℕ)
+path_to names Dir = names
+path_to names (File content) = names
+path_to names (Foreign lower) = names ++ lower ∷ []
 
 abbrev pub content_fields : Content → List (List ℕ)
 content_fields Empty = codes "empty" ∷ []
@@ -23,9 +30,10 @@ content_fields (Bad cause) = codes "bad" ∷ cause_fields cause
 abbrev pub what_fields : ShowWhat → List (List ℕ)
 what_fields Dir = []
 what_fields (File content) = content_fields content
+what_fields (Foreign lower) = []
 
 abbrev pub item_line : ShowItem → List ℕ
-item_line item = line (kind_letter item.what ∷ number item.node ∷ path item.path ∷ what_fields item.what)
+item_line item = line (kind_letter item.what ∷ number item.node ∷ path (path_to item.path item.what) ∷ what_fields item.what)
 
 abbrev pub show_head : List ℕ
 show_head = line (codes "ecryptfs-show" ∷ codes "1" ∷ [])

@@ -1,4 +1,5 @@
 use content_model::Content;
+use lower_model::Items;
 use tree_model::Path;
 
 /// What stands at a node.
@@ -8,6 +9,8 @@ pub enum ShowWhat {
     Dir,
     /// A file, and what it decodes to.
     File(Content),
+    /// A foreign entry, and its lower name.
+    Foreign(Items<u8>),
 }
 
 /// A line of a show text.
@@ -15,7 +18,7 @@ pub enum ShowWhat {
 pub struct ShowItem {
     /// The number of the node, by which the image counts it.
     pub node: u32,
-    /// Where it stands in the tree.
+    /// Where it stands in the tree; of a foreign entry, where its directory stands.
     pub path: Path,
     /// What stands there.
     pub what: ShowWhat,

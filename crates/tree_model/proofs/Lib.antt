@@ -1,5 +1,6 @@
 pub mod NameLemmas
 pub mod PathLemmas
+pub mod DirListingLemmas
 pub mod PathValues
 pub mod Searches
 pub mod Walks

@@ -28,6 +28,7 @@ is_eq_Equal Greater h = absurd (false≢true h)
 pub is_named_is : (a b : List ℕ) → is_named a b ≡ true → a ≡ b
 is_named_is a b h = exact_bytes a b (is_eq_Equal (slice_cmp nat_cmp a b) h)
 
+-- whichever of the two comes first
 pub is_named_both : (a b : List ℕ) → is_named a b ≡ is_named b a
 is_named_both a b = (eq_by_cmp_equiv nat_list_cmp_total).symm a b
 
@@ -41,6 +42,7 @@ less Greater h = absurd cc
 pub before_less : (a b : List ℕ) → IsTrue (comes_before a b) → slice_cmp nat_cmp a b ≡ Less
 before_less a b h = less (slice_cmp nat_cmp a b) h
 
+-- the order of names goes from one to the next
 pub before_trans : (a b c : List ℕ) → IsTrue (comes_before a b) → IsTrue (comes_before b c) → IsTrue (comes_before a c)
 before_trans a b c p q = ap is_lt (nat_list_cmp_total.trans a b c (before_less a b p) (before_less b c q))
 

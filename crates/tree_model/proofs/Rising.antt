@@ -18,6 +18,7 @@ greater a b h = nat_list_cmp_total.antisymm b a ∙ ap ordering_reverse (before_
 is_named-before : (a b : List ℕ) → IsTrue (comes_before a b) → is_named a b ≡ false
 is_named-before a b h = ap is_eq (before_less a b h)
 
+-- a name isn't one that comes before it
 pub is_named-behind : (a b : List ℕ) → IsTrue (comes_before a b) → is_named b a ≡ false
 is_named-behind a b h = ap is_eq (greater a b h)
 
@@ -84,6 +85,7 @@ put_entries-onto done last (e ∷ es) f h =
 pub put_entries-rising : (es : List (List ℕ × ℕ)) → RisesBehind [] es → put_entries [] es ≡ es
 put_entries-rising es h = put_entries-onto [] [] es (λ (name : List ℕ) (p : IsTrue (comes_before [] name)). tt) h
 
+-- entries are put one list behind another
 pub put_entries-append : (names es fs : List (List ℕ × ℕ)) → put_entries names (es ++ fs) ≡ put_entries (put_entries names es) fs
 put_entries-append names [] fs = refl
 put_entries-append names (e ∷ es) fs = put_entries-append (put_entry names e.0 e.1) es fs

@@ -60,9 +60,11 @@ open_new root entries x low e =
       rises = rw (entries_in-none (1 + length entries) 1 (entries ++ x ∷ []) low) refl;
     }
 
+-- the level of the first open directory
 pub level_here : (d : OpenDir) (path : List OpenDir) (k : ℕ) → d.node ≡ k → level_in (d ∷ path) k ≡ 0
 level_here d path k e = rw (eq-eqb d.node k e) refl
 
+-- the level of one behind it
 pub level_further : (d : OpenDir) (path : List OpenDir) (k : ℕ) → (d.node ≡ k → ⊥) → level_in (d ∷ path) k ≡ suc (level_in path k)
 level_further d path k ne = rw (ne_eqb d.node k ne) (omega arith)
 

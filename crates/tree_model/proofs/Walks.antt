@@ -38,6 +38,7 @@ shows_in_directory (Some File) x n is = absurd cc
 shows_in_directory (Some Nothing) x n is = absurd cc
 shows_in_directory None x n is = absurd cc
 
+-- a directory is a node
 pub node_from_directory : (place : Option Place) → IsDirectory place → IsNode place
 node_from_directory (Some (Dir d)) h = tt
 node_from_directory (Some File) h = absurd h
@@ -57,6 +58,7 @@ first_step places at n x path is =
     let s = then_ok (entry_of (slice_get places at) x) (λ m. walk places m path) n is in
     (s.0, entry_node (slice_get places at) x s.0 s.1, s.2)
 
+-- a walk begins with its first step
 pub step_first : (places : List Place) (at m : ℕ) (x : List ℕ) (path : List (List ℕ)) → node_in (slice_get places at) x ≡ Some m → walk places at (x ∷ path) ≡ walk places m path
 step_first places at m x path is = ap (λ (r : Result ℕ TreeRefusal). r >>= λ k. walk places k path) (node_entry (slice_get places at) x m is)
 

@@ -1,5 +1,6 @@
 pub mod Names
 pub mod Path
+pub mod DirListing
 pub mod Walk
 pub mod PlainTree
 pub mod IsTree

@@ -3,7 +3,6 @@ use Rattle.std.specs.Prelude.{ℕ, ◌≡◌, Bool, true, false, not, ◌||◌, 
 use Rattle.std.specs.List.{list_any}
 use Rattle.lower_model.specs.declared.kind.Kind.{Kind}
 use Rattle.lower_model.specs.declared.kind.Kind.TheVariants as kinds
-use Rattle.tree_model.specs.declared.call.Shown.{Shown}
 use Rattle.tree_model.specs.declared.call.TreeCall.{TreeCall}
 use Rattle.tree_model.specs.declared.call.TreeCall.TheVariants as calls
 use Rattle.tree_model.specs.declared.call.TreeReply.{TreeReply}
@@ -20,7 +19,9 @@ use Rattle.tree_model.specs.declared.place.Directory.{Directory}
 use Rattle.tree_model.specs.declared.place.Place.{Place}
 use Rattle.tree_model.specs.declared.place.Place.TheVariants.{Dir, File, Nothing}
 use Rattle.tree_model.specs.Names.{node_of, is_named, put_entry, without}
+use Rattle.tree_model.specs.DirListing.{Shown}
 use Rattle.tree_model.specs.Walk.{◌>>=◌, unless, dir_of, target_in, entry_of, walk, comes_by, front, last, kind_of}
+use Rattle.tree_model.specs.declared.limits.TheConstants.{MOST_NODES}
 
 -- A tree: how long a name may be, and what stands at each node number, the root at 0. The next new node gets the number behind the last place.
 pub record PlainTree : Type 0 where
@@ -29,7 +30,7 @@ pub record PlainTree : Type 0 where
 
 -- the most nodes that a tree may have, the root included
 abbrev pub most_nodes : ℕ
-most_nodes = 4096
+most_nodes = MOST_NODES
 
 -- ---- what stands at a number
 

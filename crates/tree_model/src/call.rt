@@ -1,5 +1,5 @@
-use crate::{Name, Path};
-use lower_model::{Items, Kind};
+use crate::{DirListing, Path};
+use lower_model::Kind;
 
 /// A call on the plain tree.
 #[derive(Debug, Drop)]
@@ -45,15 +45,6 @@ pub enum TreeRefusal {
     NoNodes,
 }
 
-/// An entry as a list of a directory tells it.
-#[derive(Debug, Drop)]
-pub struct Shown {
-    /// Directory or file.
-    pub kind: Kind,
-    /// Its name.
-    pub name: Name,
-}
-
 /// What a call on the plain tree answers.
 #[derive(Debug, Drop)]
 pub enum TreeReply {
@@ -62,7 +53,7 @@ pub enum TreeReply {
     /// It is done.
     Done,
     /// The entries of a directory, in octet order of their names.
-    Names(Items<Shown>),
+    Names(DirListing),
     /// The kind and the node of what a path leads to.
     Info(Kind, u32),
     /// It is refused, and nothing has changed.

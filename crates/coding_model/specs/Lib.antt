@@ -1,0 +1,4 @@
+pub mod NameCoding
+pub mod CodedName
+pub mod IsCodedName
+pub mod CodedForm
