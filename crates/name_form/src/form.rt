@@ -1,7 +1,7 @@
 ghost use Rattle.std.specs.Prelude.{◌≡◌, ℕ, ◌≤◌, List, Result, Ok, Err, length, IfOk, IsTrue};
 ghost use Rattle.lower_model.specs.Name.{is_name};
 ghost use Rattle.names_model.specs.declared.fault.NameFault.{NameFault};
-ghost use Rattle.name_form.specs.declared.form.NameError.TheVariants.{Fault};
+ghost use Rattle.name_form.specs.declared.form.NameError.TheVariants.{Fault, Memory};
 
 use lower_model::Items;
 use names_model::NameFault;
@@ -14,6 +14,22 @@ pub enum NameError {
     Fault(NameFault),
     /// Memory ran out.
     Memory,
+}
+
+impl From<NameFault> for NameError {
+    ghost from_gives = { λ fault e. e ≡ Fault fault };
+
+    fn from(fault: NameFault) -> NameError {
+        NameError::Fault(fault)
+    }
+}
+
+impl From<AllocError> for NameError {
+    ghost from_gives = { λ _ e. e ≡ Memory };
+
+    fn from(_e: AllocError) -> NameError {
+        NameError::Memory
+    }
 }
 
 /// A form of names.

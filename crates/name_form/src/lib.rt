@@ -2,6 +2,7 @@
 #![tactic(auto)]
 
 mod form;
+mod lent;
 
 pub use form::{NameError, NameForm};
 pub use names_model::{CodingFault, NameFault};

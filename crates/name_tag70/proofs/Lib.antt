@@ -1,1 +1,3 @@
 pub mod SameNames
+pub mod Leads
+pub mod NameParts

@@ -11,5 +11,6 @@ same_upper : (is : Bool) (lower : List ℕ) → upper_in (cond is (Ok lower) (Er
 same_upper true lower = refl
 same_upper false lower = refl
 
+-- the form that the type's reading and writing make is the plain one
 pub plain_form : form_of upper_of (λ name. name) LONGEST_PLAIN_NAME ≡ plain
 plain_form = λ i. record { longest = LONGEST_PLAIN_NAME; upper = λ lower. same_upper (is_name lower) lower i; written = λ name. name }

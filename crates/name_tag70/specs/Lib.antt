@@ -1,1 +1,3 @@
 pub mod PlainNames
+pub mod NameKey
+pub mod Reading

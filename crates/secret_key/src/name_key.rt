@@ -13,17 +13,17 @@ pub struct Fnek {
 }
 
 impl Model for Fnek {
-    ghost use Rattle.secret_key.specs.SignedKey.{SignedKey};
+    ghost use Rattle.key_model.specs.SignedKey.{SignedKey};
 
     ghost Value = { SignedKey };
 
-    ghost view = { λ k. record { octets = k.key; signature = k.signature } };
+    ghost view = { λ k. record { signature = k.signature; key = k.key } };
 }
 
 impl Fnek {
     /// The name key with this key's octets and this signature.
     pub fn new(key: Kek, signature: [u8; 8]) -> Fnek
-        ensures { result ≡ record { octets = key; signature = signature } }
+        ensures { result ≡ record { signature = signature; key = key } }
     {
         Fnek {
             key,
@@ -33,7 +33,7 @@ impl Fnek {
 
     /// The key's octets.
     pub fn octets(&self) -> &[u8; 64]
-        ensures value { result.now ≡ self.now.octets }
+        ensures value { result.now ≡ self.now.key }
         ensures length { length result.now ≡ 64 }
     {
         self.key.octets()
