@@ -2,7 +2,7 @@
 use Rattle.std.proofs.Common.{◌≡◌, ℕ, zero, suc, ◌+◌, ◌-◌, ◌<◌, ◌≤◌, ◌≢◌, List, [], ◌∷◌, ◌++◌, length, take, get_or, set, replicate, Option, Some, None, refl, sym, ap, subst, ◌∙◌, append_assoc, arith}
 use Rattle.std.specs.Prelude.{slice_get, slice_set, IsTrue}
 use Rattle.std.proofs.lemmas.Option.{slice_get_within}
-use Rattle.std.proofs.lemmas.List.{set-append_left, set_at, take_more, length-set, length-take-le}
+use Rattle.std.proofs.lemmas.List.{set-append_left, set_at, append-nil, take_all, take_more, length-set, length-take-le}
 use Rattle.lower_model.specs.Name.{is_name}
 use Rattle.lower_model.specs.LowerTree.{IsLowerTree}
 use Rattle.lower_model.specs.declared.kind.Kind.{Kind}
@@ -73,6 +73,12 @@ module _ (entries : List LowerNode) (x : LowerNode) where
 -- what stands at each number once the nodes below this number are entered
 abbrev pub entered_places : ℕ → List LowerNode → List Place
 entered_places number nodes = shown_places (take number nodes) ++ replicate (length nodes - number) Nothing
+
+-- all of them are
+pub entered_all : (nodes : List LowerNode) (number : ℕ) → length nodes ≤ number → entered_places number nodes ≡ shown_places nodes
+entered_all nodes number le =
+    let none : length nodes - number ≡ 0 = omega arith in
+    ap (λ (xs : List LowerNode). shown_places xs ++ replicate (length nodes - number) Nothing) (take_all number nodes le) ∙ ap (λ (k : ℕ). shown_places nodes ++ replicate k Nothing) none ∙ append-nil (shown_places nodes)
 
 within_dir : (nodes : List LowerNode) (k : ℕ) → HasDir nodes k → k < length nodes
 within_dir nodes k h = slice_get_within nodes k h.0 h.1

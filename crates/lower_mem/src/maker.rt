@@ -1,5 +1,6 @@
 ghost use Rattle.std.specs.Prelude.{◌≡◌, ℕ, List, [], length, true, IfOk, OnErr};
 ghost use Rattle.lower_model.specs.LowerTree.{IsLowerTree};
+ghost use Rattle.names_model.specs.declared.limits.TheConstants.{LONGEST_PLAIN_NAME};
 ghost use Rattle.names_model.specs.Store.{HoldsTree, store_of};
 ghost use Rattle.names_model.specs.LowerPaths.{tree_paths};
 ghost use Rattle.lower_tree.specs.Held.{TellAll, HoldTree, paths_held, stores};
@@ -17,7 +18,6 @@ use crate::split::stores_of;
 use crate::united::united_tree;
 use crate::{MemBodies, MemNames};
 use lower_tree::{LowerBodies, LowerError, LowerMaker, LowerNames, LowerTree, Parts};
-use names_model::LONGEST_PLAIN_NAME;
 use plain_tree::Tree;
 use std::alloc::{AllocError, Global};
 use std::marker::Model;
@@ -171,7 +171,7 @@ fn parts_of(alloc: Global, tree: LowerTree) -> Result<(Tree, Vec<MemBodies>), Al
     ensures lawful { IsLowerTree tree }
 {
     let nodes = tree.into_vec();
-    let names = shown_tree(alloc, &nodes, LONGEST_PLAIN_NAME)?;
+    let names = shown_tree(alloc, &nodes)?;
     let bodies = stores_of(alloc, nodes)?;
     Ok((names, bodies))
 }

@@ -1,6 +1,6 @@
-ghost use Rattle.std.specs.Prelude.{◌≡◌, ℕ, true, List, IsSome, IfOk, map};
+ghost use Rattle.std.specs.Prelude.{◌≡◌, ℕ, true, List, [], IsSome, IfOk, map};
 ghost use Rattle.names_model.specs.declared.limits.TheConstants.{LONGEST_PLAIN_NAME};
-ghost use Rattle.names_model.specs.Store.{Entries, lower_name};
+ghost use Rattle.names_model.specs.Store.{Entries, HoldsTree, lower_name, store_of};
 ghost use Rattle.names_model.specs.StoreCalls.{created, removed, renamed, CanCreate, CanRemove, CanRename};
 ghost use Rattle.lower_tree.specs.Calls.{HasCause, Leaves};
 ghost use Rattle.lower_mem.specs.Plan.{first_plan, behind_call, FailsBy};
@@ -9,9 +9,10 @@ ghost use Rattle.lower_mem.specs.Names.{names_held, store_in, HasNoForeign};
 use crate::changes::{create, remove, rename};
 use crate::places::{lower_names, shown_in};
 use crate::plan::{FailPlan, or_memory};
-use lower_tree::{Items, Kind, LowerError, LowerName, LowerNames};
+use crate::shown::shown_tree;
+use lower_tree::{Items, Kind, LowerError, LowerName, LowerNames, LowerTree};
 use plain_tree::Tree;
-use std::alloc::Global;
+use std::alloc::{AllocError, Global};
 use std::marker::Model;
 use tree_model::Spare;
 
@@ -47,6 +48,18 @@ impl MemNames {
             spare: Spare::new(alloc),
             plan: FailPlan::new(fails),
         }
+    }
+
+    /// The names of a lower tree, of whose calls none fails.
+    pub fn of(alloc: Global, tree: &LowerTree) -> Result<MemNames, AllocError>
+        ensures told { IfOk result (λ names. (names_held names).told ≡ true) }
+        ensures entries { IfOk result (λ names. (k : ℕ) → (names_held names).entries k ≡ store_of tree.now k) }
+        ensures holds { IfOk result (λ names. HoldsTree (names_held names).entries) }
+        ensures faults { IfOk result (λ names. (names_held names).faults ≡ 0) }
+        ensures plan { IfOk result (λ names. names.plan ≡ first_plan []) }
+    {
+        let names = shown_tree(alloc, tree.nodes())?;
+        Ok(MemNames::new(alloc, names, Vec::new(alloc)))
     }
 
     /// The plain tree. It takes no memory.

@@ -132,6 +132,15 @@ fn names_at_root(alloc: Global, names: &mut MemNames) -> Result<Vec<u8>, Fail>
 }
 
 #[test]
+fn has_the_names_of_a_tree(rt: HostRuntime) -> Result<(), Fail> {
+    let alloc = rt.alloc();
+    let mut names = MemNames::of(alloc, &read_image(alloc, FILES)?)?;
+    assert!(rt; names_at_root(alloc, &mut names)?.as_slice() == b"ac".as_slice());
+    assert_eq!(rt; names.faults(), 0);
+    Ok(())
+}
+
+#[test]
 fn creates_or_fails_by_number(rt: HostRuntime) -> Result<(), Fail> {
     let alloc = rt.alloc();
     let mut names = one_file(alloc, &[1])?;

@@ -1,22 +1,8 @@
 ghost use Rattle.std.specs.Prelude.{◌≡◌, IfOk, OnErr};
 ghost use Rattle.namespace.specs.Ends.{HasNames, Tells};
 
-use lower_model::Items;
 use std::alloc::{AllocError, Global};
-use tree_model::{Shown, TreeReply};
-
-fn copied_names(alloc: Global, names: &[Shown]) -> Result<Items<Shown>, AllocError>
-    ensures { IfOk result (λ n. n ≡ names.now) }
-{
-    let mut all = Vec::with_capacity(alloc, names.len())?;
-    for shown in names {
-        all.push(Shown {
-            kind: shown.kind,
-            name: shown.name.copied(alloc)?,
-        })?;
-    }
-    Ok(Items::from_vec(all))
-}
+use tree_model::TreeReply;
 
 /// A copy of a reply. Only names take memory.
 fn copied_reply(alloc: Global, reply: &TreeReply) -> Result<TreeReply, AllocError>
@@ -26,7 +12,7 @@ fn copied_reply(alloc: Global, reply: &TreeReply) -> Result<TreeReply, AllocErro
     match reply {
         TreeReply::Node(node) => Ok(TreeReply::Node(*node)),
         TreeReply::Done => Ok(TreeReply::Done),
-        TreeReply::Names(names) => Ok(TreeReply::Names(copied_names(alloc, names.as_slice())?)),
+        TreeReply::Names(names) => Ok(TreeReply::Names(names.copied(alloc)?)),
         TreeReply::Info(kind, node) => Ok(TreeReply::Info(*kind, *node)),
         TreeReply::Refused(refusal) => Ok(TreeReply::Refused(*refusal)),
         TreeReply::LowerFault => Ok(TreeReply::LowerFault),

@@ -12,9 +12,7 @@ use lower_tree::{Linked, LowerError, LowerName, LowerNames};
 use name_form::NameForm;
 use plain_tree::Tree;
 use std::alloc::{AllocError, Global};
-
-/// The most nodes that a tree has, the root included.
-const MOST_NODES: u32 = 4096;
+use tree_model::MOST_NODES;
 
 /// What the last of the entries of a directory leads to: a node behind that directory, below the most that there may be.
 fn next_node(entries: &[LowerName], last: u32) -> Option<Linked>

@@ -1,5 +1,6 @@
 ghost use Rattle.std.specs.Prelude.{◌≡◌, ◌++◌, ◌∷◌, ℕ, [], true, IfOk, IfErr};
 ghost use Rattle.tree_model.specs.IsTree.{IsTree};
+ghost use Rattle.tree_model.specs.Listing.{NumbersRise};
 ghost use Rattle.name_form.specs.FormOf.{form_of};
 ghost use Rattle.session_model.specs.TreeLog.{IsTurn};
 ghost use Rattle.namespace_model.specs.Carried.{Keeps, Stays};
@@ -18,10 +19,11 @@ use plain_tree::{Spare, TreeCall, TreeReply};
 use session_model::TreeEntry;
 use std::alloc::Global;
 use std::marker::Model;
+use tree_model::Place;
 use turn_lock::{Chain, Link};
 
 /// A plain tree over lower names, under a form of names, with the log of its turns.
-#[derive(Drop)]
+#[derive(Debug, Drop)]
 pub struct Names<N: LowerNames, U: NameForm> {
     state: State<N, U>,
     log: Chain<TreeEntry>,
@@ -56,6 +58,7 @@ impl<N: LowerNames, U: NameForm> Names<N, U> {
         ensures form { IfOk result (λ names. names.form ≡ form) }
         ensures limit { IfOk result (λ names. names.tree.limit ≡ U.longest form) }
         ensures tree { IfOk result (λ names. IsTree names.tree.places) }
+        ensures rise { IfOk result (λ names. (N.held lower).told ≡ true → NumbersRise names.tree.places) }
         ensures keeps { IfOk result (λ names. (N.held lower).told ≡ true → Keeps (form_of (U.upper form) (U.written form) (U.longest form)) names.tree.places names.kept (N.held names.lower).entries) }
         ensures fault { IfErr result (IsNamesFault N.held (N.held lower) form) }
     {
@@ -85,6 +88,14 @@ impl<N: LowerNames, U: NameForm> Names<N, U> {
             }
             Err(LowerError::Memory) => Err(NamesFault::Memory { lower, form }),
         }
+    }
+
+    /// What stands at each node number of the tree.
+    pub fn places(&self) -> &[Place]
+        ensures places { result.now ≡ self.now.tree.places }
+        ensures tree { IsTree self.now.tree.places }
+    {
+        self.state.tree.places()
     }
 
     /// One call, and its entry in the log.

@@ -2,7 +2,7 @@ use lower_model::Items;
 use plain_tree::{Spare, Tree};
 
 /// A plain tree over lower names.
-#[derive(Drop)]
+#[derive(Debug, Drop)]
 pub struct State<N, U> {
     /// The lower names.
     pub lower: N,

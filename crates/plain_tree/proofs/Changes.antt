@@ -470,6 +470,7 @@ may_clear : (t : PlainTree) (m : Moving) (target : Option ℕ) → IsTree t.plac
 may_clear t m None tree dir there = tt
 may_clear t m (Some target) tree dir there = (dir, within t.places target (tree.there m.to m.name target there))
 
+-- a change of a tree that can be made is one that its places may make
 pub may_change : (t : PlainTree) (c : Change) → IsTree t.places → CanChange t c → MayChange t.places c
 may_change t (Make m) tree can = (can.directory, can.few)
 may_change t (Remove r) tree can = (shows_in_directory (slice_get t.places r.dir) r.name r.node can.there, within t.places r.node (tree.there r.dir r.name r.node can.there))

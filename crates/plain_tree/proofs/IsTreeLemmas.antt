@@ -22,6 +22,7 @@ use Rattle.plain_tree.proofs.Places.{slice_get-set, slice_get-push}
 
 -- ---- places, case by case
 
+-- the directory that stands at a place
 pub the_directory : (place : Option Place) → IsDirectory place → (d : Directory) × (place ≡ Some (Dir d))
 the_directory (Some (Dir d)) h = (d, refl)
 the_directory (Some File) h = absurd h
@@ -222,6 +223,7 @@ slice_get-placed places at name node d is k =
     slice_get-set places at k (place_with name node (slice_get places at)) within
     ∙ ap (λ (o : Option Place). cond (k == at) (Some (place_with name node o)) (slice_get places k)) is
 
+-- a tree with one more entry, whose node had nothing, is a tree
 pub is_tree_entered : (places : List Place) (dir : ℕ) (name : List ℕ) (kind : Kind) (node : ℕ) → IsTree places → IsTrue (is_name name) → TakesName places dir name → slice_get places node ≡ Some Nothing
     → IsTree (slice_set (placed places dir name node) node (begun kind))
 is_tree_entered places dir name kind node tree lawful takes new =
@@ -290,6 +292,7 @@ root_ordered n (suc k) d is =
     let nothing : Dir d ≡ Nothing = nothing_at n k (Dir d) is in
     absurd cc
 
+-- the root alone is a tree, however many numbers stand behind it
 pub is_tree_root : (n : ℕ) → n < most_nodes → IsTree (Dir empty_directory ∷ replicate n Nothing)
 is_tree_root n few = record {
   few = omega (arith, length-replicate n Nothing);
@@ -316,6 +319,7 @@ at_nothing : (n k : ℕ) (place : Option Place) → slice_get (replicate n Nothi
 at_nothing n k None is = inl refl
 at_nothing n k (Some place) is = inr (ap (λ (p : Place). Some p) (nothing_at n k place is))
 
+-- more numbers leave what stands at the others
 pub slice_get-grown : (places : List Place) (n k : ℕ) → (slice_get (more_places places n) k ≡ slice_get places k) ⊎ ((slice_get (more_places places n) k ≡ Some Nothing) × (slice_get places k ≡ None))
 slice_get-grown [] n k = elim (at_nothing n k (slice_get (replicate n Nothing) k) refl) [
   | inl none ↦ inl none
@@ -337,6 +341,7 @@ grown_back P step places n k h = elim (slice_get-grown places n k) [
   | inr new ↦ subst P (sym new.1) (step (subst P new.0 h))
 ]
 
+-- a tree with more numbers is a tree
 pub is_tree_grown : (places : List Place) (n : ℕ) → IsTree places → length places + n ≤ most_nodes → IsTree (more_places places n)
 is_tree_grown places n tree few =
     let shown = λ (k : ℕ) (x : List ℕ) (m : ℕ). grown_back (λ p. node_in p x ≡ Some m) (λ h. h) places n k in

@@ -1,4 +1,4 @@
-ghost use Rattle.std.specs.Prelude.{◌≡◌, ◌<◌, Some, None, Ok, map, length, slice_get, IfOk, OnOk, IsTrue};
+ghost use Rattle.std.specs.Prelude.{◌≡◌, ◌<◌, ◌-◌, ◌^◌, min, sum_by, Some, None, Ok, map, length, slice_get, IfOk, OnOk, IsTrue};
 ghost use Rattle.lower_model.specs.Name.{is_name};
 ghost use Rattle.tree_model.specs.declared.change.Change.TheVariants.{Move};
 ghost use Rattle.tree_model.specs.declared.change.Prepared.TheVariants as prepared;
@@ -8,23 +8,32 @@ ghost use Rattle.plain_tree.specs.Prepared.{TestsFor, PreparesFor, HasRoom, IfCh
 
 use crate::room::{empty_at, file_at, fits_file, fits_name, fits_place, room};
 use crate::walk::{directory, entry, kind, target_in, walked};
-use lower_model::{Items, Kind};
+use lower_model::Kind;
 use std::alloc::{AllocError, Global};
 use tree_model::{
-    Change, Directory, EntryName, Making, Moving, Name, Parts, Path, Place, Prepared, Removal,
-    Shown, Spare, TreeCall, TreeRefusal, TreeReply,
+    Change, DirListing, Directory, EntryName, Making, Moving, Name, Parts, Path, Place, Prepared,
+    Removal, Spare, TreeCall, TreeRefusal, TreeReply,
 };
 
+/// How many octets the names of a directory have in all, as far as that can be counted.
+fn octets_of_names(d: &Directory) -> usize
+    ensures { result ≡ min (sum_by (λ e. length e.0) d.now.shown) (2 ^ 64 - 1) }
+{
+    let mut octets = 0usize;
+    for entry in d.shown.entries() {
+        octets = octets.saturating_add(entry.name().octets().len());
+    }
+    octets
+}
+
 /// The entries of a directory as a list tells them.
-fn shown_entries(alloc: Global, places: &[Place], d: &Directory) -> Result<Items<Shown>, AllocError>
+fn shown_entries(alloc: Global, places: &[Place], d: &Directory) -> Result<DirListing, AllocError>
     ensures { IfOk result (λ found. found ≡ map (shown_entry places.now) d.now.shown) }
 {
-    let mut found = Items::new(alloc);
-    for entry in d.shown.entries() {
-        found.push(Shown {
-            kind: kind(places, entry.node()),
-            name: entry.name().copied(alloc)?,
-        })?;
+    let entries = d.shown.entries();
+    let mut found = DirListing::with_room(alloc, entries.len(), octets_of_names(d))?;
+    for entry in entries {
+        found.push(kind(places, entry.node()), entry.name())?;
     }
     Ok(found)
 }

@@ -4,10 +4,7 @@ ghost use Rattle.std.specs.Option.{option_copied};
 ghost use Rattle.tree_model.specs.PlainTree.{is_dir, is_file, file_of, empty_at, has_nothing, is_bare, place_there, is_blocked_at, is_taken, blocks_name, fits_file, fits_name, fits_place, may_get, room_for};
 
 use crate::walk::{comes_by, directory, walked};
-use tree_model::{Directory, ForeignEntry, Parts, Place, TreeRefusal};
-
-/// The most nodes that a tree has, the root included.
-pub const MOST_NODES: usize = 4096;
+use tree_model::{Directory, ForeignEntry, MOST_NODES, Parts, Place, TreeRefusal};
 
 fn is_blocked(foreign: &[ForeignEntry], name: &[u8]) -> bool
     ensures { result ≡ list_any (blocks_name name.now) foreign.now }
@@ -146,7 +143,7 @@ fn allowed(places: &[Place], at: u32, name: &[u8]) -> Result<u32, TreeRefusal>
 {
     if is_taken(directory(places, at)?, name) {
         Err(TreeRefusal::Exists)
-    } else if places.len() < MOST_NODES {
+    } else if places.len() < MOST_NODES as usize {
         Ok(at)
     } else {
         Err(TreeRefusal::NoNodes)

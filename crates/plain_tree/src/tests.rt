@@ -1,8 +1,9 @@
-use crate::{Name, Path, Prepared, Shown, Spare, Tree, TreeCall, TreeRefusal, TreeReply};
+use crate::{Name, Path, Prepared, Spare, Tree, TreeCall, TreeRefusal, TreeReply};
 use lower_model::{Items, Kind};
 use std::alloc::Global;
 use std::process::Abort;
 use std::test::Fail;
+use tree_model::DirEntries;
 
 fn name(alloc: Global, octets: &[u8]) -> Result<Name, Fail> {
     Ok(
@@ -65,11 +66,15 @@ fn letter(kind: Kind) -> u8 {
     }
 }
 
-fn push_entry(to: &mut Vec<u8>, entry: &Shown) -> Result<(), Fail> {
-    to.push(b' ')?;
-    to.push(letter(entry.kind))?;
-    to.push(b':')?;
-    to.extend_from_slice(entry.name.octets())?;
+fn push_entries(to: &mut Vec<u8>, entries: DirEntries<'_>) -> Result<(), Fail> {
+    let mut rest = entries;
+    while let Some((kind, name, behind)) = rest.split_first() {
+        to.push(b' ')?;
+        to.push(letter(kind))?;
+        to.push(b':')?;
+        to.extend_from_slice(name)?;
+        rest = behind;
+    }
     Ok(())
 }
 
@@ -90,11 +95,9 @@ fn told(alloc: Global, reply: &TreeReply) -> Result<Vec<u8>, Fail> {
             octets.push(b' ')?;
             octets.push(b'0' + (node % 10) as u8)?;
         }
-        TreeReply::Names(entries) => {
+        TreeReply::Names(listing) => {
             octets.extend_from_slice(b"names")?;
-            for entry in entries.as_slice() {
-                push_entry(&mut octets, entry)?;
-            }
+            push_entries(&mut octets, listing.entries())?;
         }
     }
     Ok(octets)

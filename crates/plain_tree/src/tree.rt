@@ -9,12 +9,13 @@ ghost use Rattle.plain_tree.specs.Prepared.{PreparesFor, HasRoom, CanChange, IfC
 
 use crate::change::{apply, begun, empty_directory, put_foreign, put_in};
 use crate::prepare::prepared;
-use crate::room::MOST_NODES;
 use crate::walk::{kind, walked};
 use lower_model::{Items, Kind};
 use std::alloc::{AllocError, Global};
 use std::marker::Model;
-use tree_model::{Change, ForeignEntry, Name, Parts, Place, Prepared, Spare, TreeCall, TreeReply};
+use tree_model::{
+    Change, ForeignEntry, MOST_NODES, Name, Parts, Place, Prepared, Spare, TreeCall, TreeReply,
+};
 
 /// A plain tree: how long its names may be, and what stands at each node number, the root at 0.
 #[derive(Debug, Drop)]
@@ -41,7 +42,7 @@ impl Tree {
         requires { (1 ≤ next) × (next ≤ most_nodes) }
         ensures { IfOk result (λ t. t ≡ record { limit = limit; places = Dir empty_directory ∷ replicate (next - 1) Nothing }) }
     {
-        let mut places = Vec::with_capacity(alloc, MOST_NODES)?;
+        let mut places = Vec::with_capacity(alloc, MOST_NODES as usize)?;
         places.push(Place::Dir(empty_directory(alloc)))?;
         for _ in 1..next {
             places.push(Place::Nothing)?;

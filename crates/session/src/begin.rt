@@ -178,6 +178,8 @@ pub(crate) fn upcoming(
     if let Some(op) = left.pop_front() {
         return begun(slots, op);
     }
+    // The script's room is let go here, since its session lives until the report is written.
+    left.shrink_to_fit();
     match first_open(slots, *past) {
         Some(slot) => {
             *past = slot + 1;

@@ -13,7 +13,7 @@ use std::collections::VecDeque;
 use std::marker::Model;
 
 /// A session: what is left of its script, its slots, and the replies that it has.
-#[derive(Drop)]
+#[derive(Debug, Drop)]
 pub struct Session {
     id: u32,
     left: VecDeque<Op>,

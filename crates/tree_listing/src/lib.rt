@@ -1,6 +1,6 @@
-//! The listing of a lower tree: the paths of its nodes.
+//! The listing of a plain tree: its entries with their paths, and its foreign entries.
 #![tactic(auto)]
 
-mod listing;
+mod adding;
 
-pub use listing::listed_paths;
+pub use adding::listing;

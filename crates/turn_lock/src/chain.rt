@@ -120,7 +120,7 @@ impl<E: Drop> Chain<E> {
     pub fn entries(&self, alloc: Global) -> Result<Vec<&E>, AllocError>
         ensures { IfOk result (λ entries. map (λ e. e.now) entries.items ≡ self.now) }
     {
-        let mut entries = Vec::new(alloc);
+        let mut entries = Vec::with_capacity(alloc, self.count as usize)?;
         let mut node = &self.top;
         while let Node::More(entry, below) = node {
             entries.push(entry)?;
