@@ -2,7 +2,7 @@
 use Rattle.std.proofs.Common.{◌≡◌, ℕ, ◌<◌, ◌≤◌, ◌^◌, true, false, List, [], ◌∷◌, ◌++◌, length, get_or, map, codes, Result, Ok, Err, refl, sym, ap, subst, ◌∙◌, append_assoc, arith}
 use Rattle.std.specs.Prelude.{◌==◌}
 use Rattle.std.specs.List.{flat_map, AllByRecursion}
-use Rattle.std.proofs.lemmas.Bool.{and_parts, eqb-true}
+use Rattle.std.proofs.lemmas.Bool.{eqb-true}
 use Rattle.std.proofs.lemmas.List.{nil_from_length, length-append}
 use Rattle.octet_model.proofs.Octets.{AreOctets-from_each}
 use Rattle.answer_model.proofs.Binds.{bind_ok, ok_is}
@@ -13,13 +13,11 @@ use Rattle.script_model.specs.declared.op.Op.{Op}
 use Rattle.script_model.specs.Script.{IsScript, IsTreeScript}
 use Rattle.script_model.specs.ScriptText.{script_text}
 use Rattle.job_model.specs.declared.job.Job.{Job}
-use Rattle.job_model.specs.declared.job.NameCoding.{NameCoding}
-use Rattle.job_model.specs.declared.job.NameCoding.TheVariants.{Plain, Tag70}
 use Rattle.job_model.specs.Job.{IsJob, IsSchedule, IsServedSoFar}
 use Rattle.job_model.specs.JobText.{IsJobText, IsNoJob, settings_text, coding_word, meta_place_word, job_text, image_text}
 use Rattle.job_text.specs.declared.settings.Keys.{Keys}
 use Rattle.job_text.specs.declared.settings.Making.{Making}
-use Rattle.job_text.specs.JobReading.{whole_at, keys_at, making_at, image_at, scripts_at, schedule_at, end_at, Work, work_at, job_of, job_at, is_plain, is_served_so_far}
+use Rattle.job_text.specs.JobReading.{whole_at, keys_at, making_at, image_at, scripts_at, schedule_at, end_at, Work, work_at, job_of, job_at, is_served_so_far}
 use Rattle.job_text.proofs.LineParts.{IsSlice, IsSlice-rest, ended, whole_found, whole_again}
 use Rattle.job_text.proofs.JobParts.{IsImage, image_part, AreCounted, counted_text, IsReadScript, scripts_part, schedule_part, AreKeys, keys_text, keys_part, IsMaking, making_text, making_part, joined, apart}
 
@@ -166,17 +164,12 @@ job_again job is_read small =
 
 -- ---- what is served so far
 
-coding_is : (coding : NameCoding) → is_plain coding ≡ true → coding ≡ Plain
-coding_is Plain e = refl
-coding_is Tag70 e = absurd cc
-
 served : (job : Job) → AllByRecursion IsTreeScript job.scripts → is_served_so_far job ≡ true → IsServedSoFar job
 served job on_tree e =
-    let both = and_parts (is_plain job.names) (length job.scripts == 1) e in
-    record { plain_names = coding_is job.names both.0; one_session = eqb-true (length job.scripts) 1 both.1; tree_calls = on_tree }
+    record { one_session = eqb-true (length job.scripts) 1 e; tree_calls = on_tree }
 
 serves : (job : Job) → IsServedSoFar job → is_served_so_far job ≡ true
-serves job h = rw (h.plain_names, h.one_session) refl
+serves job h = rw h.one_session refl
 
 -- ---- texts of jobs
 

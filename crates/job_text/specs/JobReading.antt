@@ -216,12 +216,8 @@ job_at octets = do
 
 -- ---- what is served so far
 
-abbrev pub is_plain : NameCoding → Bool
-is_plain Plain = true
-is_plain Tag70 = false
-
 abbrev pub is_served_so_far : Job → Bool
-is_served_so_far job = is_plain job.names && length job.scripts == 1
+is_served_so_far job = length job.scripts == 1
 
 -- this job, or memory ran out
 abbrev pub IsJobOrMemory : Job → Result Job JobError → Type 0

@@ -9,7 +9,7 @@ use crate::line::whole_line;
 use crate::schedule::schedule_of;
 use crate::script::scripts_of;
 use crate::settings::{Keys, Making, keys_of, making_of};
-use job_model::{Job, MOST_OCTETS, NameCoding};
+use job_model::{Job, MOST_OCTETS};
 use lower_model::{Items, LowerTree};
 use script_model::Op;
 use std::alloc::Global;
@@ -87,7 +87,7 @@ fn job_of(alloc: Global, octets: &[u8]) -> Result<Job, LineError>
 fn is_served_so_far(job: &Job) -> bool
     ensures { result ≡ served_test job.now }
 {
-    job.names == NameCoding::Plain && job.scripts.len() == 1
+    job.scripts.len() == 1
 }
 
 /// The job whose text these octets are; `Bad` exactly where they are the text of none that is served so far.

@@ -67,6 +67,7 @@ split_more octet text part rest e =
     let c = cut_is octet text part rest e in
     slice_split_first (is_at octet) text 0 c.0 ∙ ap (λ (x : List ℕ × List ℕ). x.0 ∷ slice_split (is_at octet) x.1) c.1
 
+-- a text without the octet is its one part
 pub split_last : (octet : ℕ) (text : List ℕ) → cut_in octet text ≡ None → slice_split (is_at octet) text ≡ text ∷ []
 unfolding cut_in
 split_last octet text e =

@@ -19,6 +19,7 @@ use Rattle.line_reader.proofs.NameReader.{chosen, name_words, name_reader}
 
 -- ---- fields in a row
 
+-- texts in none of which this octet stands
 abbrev pub AreWithout : ℕ → List (List ℕ) → Type 0
 AreWithout octet texts = AllByRecursion (λ text. list_all (is_other octet) text ≡ true) texts
 

@@ -1,4 +1,4 @@
-ghost use Rattle.std.specs.Prelude.{◌≡◌, ◌<◌, ◌∷◌, length, IfOk, IfSome};
+ghost use Rattle.std.specs.Prelude.{◌≡◌, ◌<◌, [], ◌∷◌, length, IfOk, IfSome};
 ghost use Rattle.std.specs.Option.{option_map};
 ghost use Rattle.text_model.specs.Line.{name, is_plain as plain_test};
 ghost use Rattle.line_reader.specs.Fields.{Reads, IsName, IsFirstOctet, escaped_in, octets_in, name_in};
@@ -56,10 +56,12 @@ fn first_octet(text: &[u8]) -> Option<(u8, &[u8])>
     }
 }
 
-fn octets_of(alloc: Global, text: &[u8]) -> Result<Option<Vec<u8>>, AllocError>
+// In this room.
+fn octets_of(room: Vec<u8>, text: &[u8]) -> Result<Option<Vec<u8>>, AllocError>
+    requires { room.items ≡ [] }
     ensures { IfOk result (λ found. option_map (λ v. v.items) found ≡ octets_in text.now) }
 {
-    let mut octets = Vec::new(alloc);
+    let mut octets = room;
     let mut rest = text;
     while !rest.is_empty() {
         let Some((octet, behind)) = first_octet(rest) else {
@@ -71,10 +73,12 @@ fn octets_of(alloc: Global, text: &[u8]) -> Result<Option<Vec<u8>>, AllocError>
     Ok(Some(octets))
 }
 
-fn name_of(alloc: Global, text: &[u8]) -> Result<Option<Name>, AllocError>
+// The name that a text spells, in this room, so that many names are read in one.
+pub(crate) fn name_of(room: Vec<u8>, text: &[u8]) -> Result<Option<Name>, AllocError>
+    requires { room.items ≡ [] }
     ensures { IfOk result (λ found. found ≡ name_in text.now) }
 {
-    match octets_of(alloc, text)? {
+    match octets_of(room, text)? {
         Some(octets) => Ok(Name::new(octets).ok()),
         None => Ok(None),
     }
@@ -85,5 +89,5 @@ pub fn read_name(alloc: Global, text: &[u8]) -> Result<Option<Name>, AllocError>
     ensures reads { IfOk result (λ found. Reads name IsName text.now found) }
     ensures value { IfOk result (λ found. found ≡ name_in text.now) }
 {
-    name_of(alloc, text)
+    name_of(Vec::new(alloc), text)
 }

@@ -4,7 +4,8 @@ ghost use Rattle.text_model.specs.Line.{path};
 ghost use Rattle.tree_model.specs.Path.{IsPath};
 ghost use Rattle.line_reader.specs.Fields.{Reads, name_in, each_in, path_in};
 
-use crate::{cut_at, read_name};
+use crate::cut_at;
+use crate::name::name_of;
 use std::alloc::{AllocError, Global};
 use tree_model::Path;
 
@@ -12,15 +13,18 @@ fn names_of(alloc: Global, text: &[u8]) -> Result<Option<Path>, AllocError>
     ensures { IfOk result (λ found. found ≡ each_in name_in (slice_split (λ c. c == 47) text.now)) }
 {
     let mut path = Path::with_room(alloc, text.len() + 1)?;
+    let mut room = Vec::new(alloc);
     let mut rest = text;
     'parts: while let Some((part, behind)) = cut_at(b'/', rest) {
-        let Some(name) = read_name(alloc, part)? else {
+        let Some(name) = name_of(room, part)? else {
             return Ok(None);
         };
         path.push(&name)?;
+        room = name.into_octets();
+        room.clear();
         rest = behind;
     }
-    let Some(name) = read_name(alloc, rest)? else {
+    let Some(name) = name_of(room, rest)? else {
         return Ok(None);
     };
     path.push(&name)?;

@@ -8,4 +8,4 @@ mod name;
 mod tests;
 
 pub use field::{put_hex, put_line_end, put_number, put_space, put_word};
-pub use name::{put_name, put_path};
+pub use name::{put_entry_path, put_name, put_path};

@@ -1,4 +1,4 @@
-ghost use Rattle.std.specs.Prelude.{◌≡◌, ◌++◌, OnOk, OnErr};
+ghost use Rattle.std.specs.Prelude.{◌≡◌, ◌++◌, ◌∷◌, [], OnOk, OnErr};
 ghost use Rattle.octet_model.specs.Octets.{BeginsWith};
 ghost use Rattle.std.specs.List.{flat_map};
 ghost use Rattle.text_model.specs.Line.{is_plain as plain_test, name_octet, name, slash_name, path as path_text};
@@ -62,4 +62,14 @@ pub fn put_path(out: &mut Vec<u8>, path: &Path) -> Result<(), AllocError>
         return Ok(());
     }
     put_parts(out, parts)
+}
+
+/// Adds the path of an entry: that of its directory, and its name.
+pub fn put_entry_path(out: &mut Vec<u8>, directory: &Path, name: &[u8]) -> Result<(), AllocError>
+    ensures ok { OnOk result (out.new.items ≡ out.old.items ++ path_text (directory.now ++ name.now ∷ [])) }
+    ensures err { OnErr result (BeginsWith out.new.items out.old.items) }
+{
+    put_parts(out, directory.parts())?;
+    out.push(b'/')?;
+    put_name(out, name)
 }

@@ -9,7 +9,7 @@ use line_writer::{put_line_end, put_name, put_number, put_space, put_word};
 use lower_model::Kind;
 use session_model::{FileReply, Reply};
 use std::alloc::AllocError;
-use tree_model::{Shown, TreeRefusal, TreeReply};
+use tree_model::{DirEntries, TreeRefusal, TreeReply};
 
 fn kind_word(kind: Kind) -> &'static str
     ensures { result.now ≡ word_of_kind kind }
@@ -37,19 +37,21 @@ fn refusal_word(refusal: TreeRefusal) -> &'static str
 }
 
 // A space, and an entry as a list tells it.
-fn put_shown(out: &mut Vec<u8>, entry: &Shown) -> Result<(), AllocError>
-    ensures { OnOk result (out.new.items ≡ out.old.items ++ 32 ∷ shown_field entry.now) }
+fn put_shown(out: &mut Vec<u8>, kind: Kind, name: &[u8]) -> Result<(), AllocError>
+    ensures { OnOk result (out.new.items ≡ out.old.items ++ 32 ∷ shown_field (record { kind = kind; name = name.now })) }
 {
     put_space(out)?;
-    put_word(out, kind_word(entry.kind))?;
-    put_name(out, entry.name.octets())
+    put_word(out, kind_word(kind))?;
+    put_name(out, name)
 }
 
-fn put_names(out: &mut Vec<u8>, names: &[Shown]) -> Result<(), AllocError>
-    ensures { OnOk result (out.new.items ≡ out.old.items ++ spaced (map shown_field names.now)) }
+fn put_names(out: &mut Vec<u8>, entries: DirEntries<'_>) -> Result<(), AllocError>
+    ensures { OnOk result (out.new.items ≡ out.old.items ++ spaced (map shown_field entries.entry)) }
 {
-    for entry in names {
-        put_shown(out, entry)?;
+    let mut rest = entries;
+    while let Some((kind, name, others)) = rest.split_first() {
+        put_shown(out, kind, name)?;
+        rest = others;
     }
     Ok(())
 }
@@ -77,7 +79,7 @@ pub fn put_tree_reply(out: &mut Vec<u8>, reply: &TreeReply) -> Result<(), AllocE
         TreeReply::Done => put_word(out, "ok"),
         TreeReply::Names(names) => {
             put_word(out, "names")?;
-            put_names(out, names.as_slice())
+            put_names(out, names.entries())
         }
         TreeReply::Info(kind, node) => {
             put_word(out, "ok")?;

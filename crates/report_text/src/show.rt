@@ -1,12 +1,13 @@
 ghost use Rattle.std.specs.Prelude.{◌≡◌, ◌∷◌, ◌++◌, [], IfOk, OnOk, OnErr};
 ghost use Rattle.std.specs.List.{flat_map};
 ghost use Rattle.octet_model.specs.Octets.{BeginsWith};
+ghost use Rattle.text_model.specs.Line.{path as path_text};
 ghost use Rattle.line_writer.specs.Fields.{spaced};
-ghost use Rattle.show_model.specs.ShowText.{content_fields, item_line, kind_letter as letter_of_kind, show_end, show_head, show_text, what_fields};
+ghost use Rattle.show_model.specs.ShowText.{content_fields, item_line, kind_letter as letter_of_kind, path_to, show_end, show_head, show_text, what_fields};
 
 use crate::fields::{put_cause, put_count, put_data, put_number_field, put_word_field};
 use content_model::Content;
-use line_writer::{put_line_end, put_path, put_space, put_word};
+use line_writer::{put_entry_path, put_line_end, put_path, put_space, put_word};
 use show_model::{ShowItem, ShowWhat};
 use std::alloc::{AllocError, Global};
 
@@ -34,8 +35,8 @@ fn put_what(out: &mut Vec<u8>, what: &ShowWhat) -> Result<(), AllocError>
     ensures err { OnErr result (BeginsWith out.new.items out.old.items) }
 {
     match what {
-        ShowWhat::Dir => Ok(()),
         ShowWhat::File(content) => put_content(out, content),
+        ShowWhat::Dir | ShowWhat::Foreign(_) => Ok(()),
     }
 }
 
@@ -45,6 +46,18 @@ fn kind_letter(what: &ShowWhat) -> &'static str
     match what {
         ShowWhat::Dir => "d",
         ShowWhat::File(_) => "f",
+        ShowWhat::Foreign(_) => "x",
+    }
+}
+
+// The path from the root to an item.
+fn put_path_to(out: &mut Vec<u8>, item: &ShowItem) -> Result<(), AllocError>
+    ensures ok { OnOk result (out.new.items ≡ out.old.items ++ path_text (path_to item.now.path item.now.what)) }
+    ensures err { OnErr result (BeginsWith out.new.items out.old.items) }
+{
+    match &item.what {
+        ShowWhat::Foreign(lower) => put_entry_path(out, &item.path, lower.as_slice()),
+        ShowWhat::Dir | ShowWhat::File(_) => put_path(out, &item.path),
     }
 }
 
@@ -56,7 +69,7 @@ pub fn put_show_head(out: &mut Vec<u8>) -> Result<(), AllocError>
     put_word(out, "ecryptfs-show 1\n")
 }
 
-/// Adds the line of a node.
+/// Adds the line of a node, or of a foreign entry.
 pub fn put_show_item(out: &mut Vec<u8>, item: &ShowItem) -> Result<(), AllocError>
     ensures ok { OnOk result (out.new.items ≡ out.old.items ++ item_line item.now) }
     ensures err { OnErr result (BeginsWith out.new.items out.old.items) }
@@ -64,7 +77,7 @@ pub fn put_show_item(out: &mut Vec<u8>, item: &ShowItem) -> Result<(), AllocErro
     put_word(out, kind_letter(&item.what))?;
     put_number_field(out, item.node as u64)?;
     put_space(out)?;
-    put_path(out, &item.path)?;
+    put_path_to(out, item)?;
     put_what(out, &item.what)?;
     put_line_end(out)
 }

@@ -1,5 +1,5 @@
 -- The lines of a script are read as they are spelled.
-use Rattle.std.proofs.Common.{◌≡◌, ℕ, ◌<◌, length, Bool, true, List, [], ◌∷◌, ◌++◌, codes, Option, Some, None, refl, sym, ap, subst, ◌∙◌, arith, inl, inr}
+use Rattle.std.proofs.Common.{◌≡◌, ℕ, ◌<◌, length, Bool, true, List, [], ◌∷◌, codes, Option, Some, None, refl, sym, ap, subst, ◌∙◌, arith, inl, inr}
 use Rattle.std.specs.Prelude.{◌&&◌, ◌==◌}
 use Rattle.std.specs.List.{list_all, slice_split, join_with_byte, flat_map, AllByRecursion}
 use Rattle.std.specs.Option.{option_map}
@@ -15,7 +15,7 @@ use Rattle.script_model.specs.declared.op.Op.{Op}
 use Rattle.script_model.specs.declared.op.Op.TheVariants as ops
 use Rattle.script_model.specs.Script.{IsOp, IsTreeOp}
 use Rattle.script_model.specs.ScriptText.{op_fields, op_text}
-use Rattle.line_reader.specs.Fields.{IsName, path_in, ◌>>=◌}
+use Rattle.line_reader.specs.Fields.{path_in, ◌>>=◌}
 use Rattle.line_reader.proofs.Readers.{IsReader, bind_some}
 use Rattle.line_reader.proofs.Words.{is_word, is_other, both, weaker}
 use Rattle.line_reader.proofs.NameReader.{name_words, chosen}

@@ -1,5 +1,5 @@
-use Rattle.std.proofs.Common.{◌≤◌, length, sym, ap, ◌∙◌, arith}
-use Rattle.line_reader.specs.Fields.{escaped_in, put, octets_in}
+use Rattle.std.proofs.Common.{sym, ap, ◌∙◌}
+use Rattle.line_reader.specs.Fields.{escaped_in}
 use Rattle.line_reader.proofs.NameReader.{escaped_first, wrong_digits, few_digits}
 use Rattle.line_reader.proofs.name.octet_behind_percent.Goals as goal
 

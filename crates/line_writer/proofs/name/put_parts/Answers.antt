@@ -1,4 +1,4 @@
-use Rattle.std.proofs.Common.{rules, ◌≡◌, ◌++◌, length, List, [], ◌∷◌, ℕ, refl, ap, sym, ◌∙◌, arith, append-nil}
+use Rattle.std.proofs.Common.{rules, ◌≡◌, ◌++◌, length, List, [], ◌∷◌, ℕ, ap, sym, ◌∙◌, arith, append-nil}
 use Rattle.std.specs.List.{flat_map}
 use Rattle.octet_model.specs.Octets.{BeginsWith}
 use Rattle.octet_model.proofs.Fronts.{same_begins, added_begins, begins_through}

@@ -9,6 +9,6 @@ returns-clause-ok c =
       ← c.in_ok-put_word.ensures.ok,
       ← c.in_ok-put_number_field.ensures.ok,
       ← c.in_ok-put_space.ensures.ok,
-      ← c.in_ok-put_path.ensures.ok,
+      ← c.in_ok-put_path_to.ensures.ok,
       ← c.in_ok-put_what.ensures.ok,
     ) c.put_line_end.ensures.ok

@@ -1,6 +1,5 @@
-use Rattle.std.proofs.Common.{◌≡◌, Option, Some, None, sym, ◌∙◌}
+use Rattle.std.proofs.Common.{◌≡◌, Some, None}
 use Rattle.std.specs.Option.{option_copied}
-use Rattle.script_model.specs.declared.op.Op.{Op}
 use Rattle.script_text.specs.OpReading.{fields_behind, op_in}
 use Rattle.script_text.proofs.OpReader.{is_op_text, no_op_text, read_of}
 use Rattle.script_text.proofs.read.read_op.Goals as goal
