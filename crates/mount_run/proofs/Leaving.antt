@@ -8,7 +8,7 @@ use Rattle.lower_model.specs.declared.node.LowerNode.{LowerNode}
 use Rattle.tree_model.specs.IsTree.{IsTree, IsNode}
 use Rattle.tree_model.specs.PlainTree.{PlainTree}
 use Rattle.names_model.specs.Store.{Store, IsStoreOf, store_of}
-use Rattle.names_model.specs.NameForm.{plain}
+use Rattle.names_model.specs.NameForm.{NameForm}
 use Rattle.names_model.specs.LowerPaths.{LowerFile, LowerPaths, found, files_of, paths_of, tree_paths}
 use Rattle.names_model.specs.ShownBy.{shown_of}
 use Rattle.names_model.specs.CarriedBy.{Carries, IsUntouched, Leaves}
@@ -17,51 +17,43 @@ use Rattle.opening_model.proofs.ByPath.{carries_tree, untouched, are_names}
 use Rattle.lower_tree.specs.Held.{HeldNames, HeldBodies, file_at, paths_held}
 use Rattle.mount_run.specs.Mounted.{TellsImage}
 
--- names under plain names
-pub plain_laws : IsForm plain
-plain_laws = record {
-  reads_written = λ name is fits. rw is refl;
-  reads_names = λ lower name is reads. (let same : lower ≡ name = (let r : Some lower ≡ Some name = rw is at reads in cc) in subst (λ (n : List ℕ). IsTrue (is_name n)) same is);
-  writes_names = λ name is fits. is;
-}
-
-module _ (image : List LowerNode) (first now : HeldNames) (bodies : List HeldBodies) (start : PlainTree) (kept : List (List ℕ)) (end : PlainTree) (names : List (List ℕ))
-    (tells : TellsImage image (record { names = first; bodies = bodies }) start kept) where
+module _ (form : NameForm) (image : List LowerNode) (first now : HeldNames) (bodies : List HeldBodies) (start : PlainTree) (kept : List (List ℕ)) (end : PlainTree) (names : List (List ℕ))
+    (tells : TellsImage form image (record { names = first; bodies = bodies }) start kept) where
   is_store : IsStoreOf image first.entries
   is_store = record { lawful = tells.hold.lawful; entries = tells.hold.entries }
 
-  pub is_shown : start ≡ shown_of plain image
+  pub is_shown : start ≡ shown_of form image
   is_shown = tells.shows.tree image is_store
 
-  module _ (stays : Stays plain start.places kept first.entries end.places names now.entries) where
+  module _ (stays : Stays form start.places kept first.entries end.places names now.entries) where
     below : AreBelow (store_of image) end.places now.entries
     below =
         let same : first.entries ≡ store_of image = λ i k. tells.hold.entries k i in
         stays.below (store_of image) (record { below = λ k f among path. ap (λ (s : Store). found s (record { kind = kinds.Dir; node = k }) (f.lower ∷ path)) same })
 
-    named : AreNamed plain (shown_of plain image).places kept end.places names
+    named : AreNamed form (shown_of form image).places kept end.places names
     named =
-        let begins : AreNamed plain start.places kept start.places kept = record { named = λ k x n is. inr (n, is, refl) } in
-        subst (λ (t : PlainTree). AreNamed plain t.places kept end.places names) is_shown (stays.named start.places kept begins)
+        let begins : AreNamed form start.places kept start.places kept = record { named = λ k x n is. inr (n, is, refl) } in
+        subst (λ (t : PlainTree). AreNamed form t.places kept end.places names) is_shown (stays.named start.places kept begins)
 
-    own : (i : ℕ) (x : LowerNode) → 1 ≤ i → IsNode (slice_get (shown_of plain image).places i) → slice_get image i ≡ Some x → get_or kept i [] ≡ x.name
+    own : (i : ℕ) (x : LowerNode) → 1 ≤ i → IsNode (slice_get (shown_of form image).places i) → slice_get image i ≡ Some x → get_or kept i [] ≡ x.name
     own i x some node is = tells.shows.names image is_store i x some (subst (λ (t : PlainTree). IsNode (slice_get t.places i)) (sym is_shown) node) is
 
-    module _ (keeps : Keeps plain end.places names now.entries) (tree : IsTree end.places) (after : List LowerNode) (lawful : IsLowerTree after)
+    module _ (laws : IsForm form) (keeps : Keeps form end.places names now.entries) (tree : IsTree end.places) (after : List LowerNode) (lawful : IsLowerTree after)
         (united : (path : List (List ℕ)) → tree_paths after path ≡ paths_held (record { names = now; bodies = bodies }) path) where
       by_files : (files : ℕ → LowerFile) → file_at bodies ≡ files → tree_paths after ≡ paths_of now.entries files
       by_files files same =
           let all : tree_paths after ≡ paths_of now.entries (file_at bodies) = λ i path. united path i in
           all ∙ ap (λ (f : ℕ → LowerFile). paths_of now.entries f) same
 
-      pub leaves : Leaves plain image end after
+      pub leaves : Leaves form image end after
       leaves =
           let files : file_at bodies ≡ files_of image = λ i k. tells.hold.files k i in
           let lower : ℕ → List ℕ = λ n. get_or names n [] in
           record {
             lawful = lawful;
             names = lower;
-            carried = subst (λ (paths : LowerPaths). Carries plain end lower paths) (sym (by_files (file_at bodies) refl)) (carries_tree plain end names now.entries keeps tree (file_at bodies));
-            untouched = subst (λ (paths : LowerPaths). IsUntouched end lower image paths) (sym (by_files (files_of image) files)) (untouched plain end names now.entries keeps tree image below);
-            named = are_names plain end names now.entries keeps tree plain_laws image tells.hold.lawful kept own named;
+            carried = subst (λ (paths : LowerPaths). Carries form end lower paths) (sym (by_files (file_at bodies) refl)) (carries_tree form end names now.entries keeps tree (file_at bodies));
+            untouched = subst (λ (paths : LowerPaths). IsUntouched end lower image paths) (sym (by_files (files_of image) files)) (untouched form end names now.entries keeps tree image below);
+            named = are_names form end names now.entries keeps tree laws image tells.hold.lawful kept own named;
           }

@@ -1,7 +1,9 @@
 pub mod Commands
 pub mod Faultless
+mod FormLaws
 pub mod GoingOn
 pub mod Leaving
+mod ListedNumbers
 pub mod Mounting
 pub mod Moves
 pub mod Serving

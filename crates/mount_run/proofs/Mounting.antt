@@ -4,7 +4,7 @@ use Rattle.lower_model.specs.declared.node.LowerNode.{LowerNode}
 use Rattle.tree_model.specs.IsTree.{IsTree}
 use Rattle.tree_model.specs.PlainTree.{PlainTree}
 use Rattle.names_model.specs.Store.{Store}
-use Rattle.names_model.specs.NameForm.{plain}
+use Rattle.names_model.specs.NameForm.{NameForm}
 use Rattle.opening_model.specs.Openings.{ShowsTree}
 use Rattle.lower_tree.specs.Held.{HeldNames, HeldBodies, HeldParts, TellAll, HoldTree}
 use Rattle.lower_tree.specs.Making.{AreFresh, AddsFaults, faults_of, sum_of_counts}
@@ -15,13 +15,13 @@ abbrev pub parts_of : HeldNames → List HeldBodies → HeldParts
 parts_of names bodies = record { names = names; bodies = bodies }
 
 -- The names are opened, and no call on them failed.
-pub record AreOpened (old new : HeldNames) (tree : PlainTree) (kept : List (List ℕ)) : Type 0 where
+pub record AreOpened (form : NameForm) (old new : HeldNames) (tree : PlainTree) (kept : List (List ℕ)) : Type 0 where
   pub faults : new.faults ≡ old.faults
   pub told : new.told ≡ old.told
   pub stays : old.told ≡ true → (k : ℕ) → new.entries k ≡ old.entries k
-  pub shows : old.told ≡ true → ShowsTree plain old.entries tree kept
+  pub shows : old.told ≡ true → ShowsTree form old.entries tree kept
   pub is_tree : IsTree tree.places
-  pub limit : tree.limit ≡ plain.longest
+  pub limit : tree.limit ≡ form.longest
 
 -- The maker has split an image.
 pub record AreSplit (maker : Maker) (image : List LowerNode) (parts : HeldParts) : Type 0 where
@@ -29,12 +29,12 @@ pub record AreSplit (maker : Maker) (image : List LowerNode) (parts : HeldParts)
   pub tell : maker.tells ≡ true → TellAll parts
   pub hold : maker.tells ≡ true → HoldTree parts image
 
-module _ (maker : Maker) (image : List LowerNode) (old new : HeldNames) (bodies : List HeldBodies) (tree : PlainTree) (kept : List (List ℕ)) (split : AreSplit maker image (parts_of old bodies)) (opened : AreOpened old new tree kept) where
+module _ (form : NameForm) (maker : Maker) (image : List LowerNode) (old new : HeldNames) (bodies : List HeldBodies) (tree : PlainTree) (kept : List (List ℕ)) (split : AreSplit maker image (parts_of old bodies)) (opened : AreOpened form old new tree kept) where
   calm : (part : ℕ) → faults_of (parts_of new bodies) part ≡ 0
   calm zero = opened.faults ∙ split.fresh.calm 0
   calm (suc k) = split.fresh.calm (suc k)
 
-  tells_image : maker.tells ≡ true → TellsImage image (parts_of new bodies) tree kept
+  tells_image : maker.tells ≡ true → TellsImage form image (parts_of new bodies) tree kept
   tells_image tells =
       let tell = split.tell tells in
       let hold = split.hold tells in
@@ -42,10 +42,10 @@ module _ (maker : Maker) (image : List LowerNode) (old new : HeldNames) (bodies 
       record {
         tell = record { names = opened.told ∙ tell.names; bodies = tell.bodies };
         hold = record { lawful = hold.lawful; entries = λ k. opened.stays tell.names k ∙ hold.entries k; files = hold.files };
-        shows = subst (λ (s : Store). ShowsTree plain s tree kept) same (opened.shows tell.names);
+        shows = subst (λ (s : Store). ShowsTree form s tree kept) same (opened.shows tell.names);
       }
 
-  pub mounted : IsMounted maker image (parts_of new bodies) tree kept
+  pub mounted : IsMounted form maker image (parts_of new bodies) tree kept
   mounted = record {
     fresh = record { stores = split.fresh.stores; calm = calm };
     is_tree = opened.is_tree;

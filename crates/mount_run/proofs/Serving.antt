@@ -3,8 +3,7 @@ use Rattle.std.proofs.Common.{◌≡◌, ℕ, zero, suc, true, inl, inr, List, [
 use Rattle.answer_model.specs.Count.{Rose}
 use Rattle.tree_model.specs.IsTree.{IsTree}
 use Rattle.tree_model.specs.PlainTree.{PlainTree}
-use Rattle.names_model.specs.NameForm.{plain}
-use Rattle.namespace_model.specs.Carried.{Keeps, Stays}
+use Rattle.namespace_model.specs.Carried.{IsForm, Keeps, Stays}
 use Rattle.script_model.specs.declared.op.Op.{Op}
 use Rattle.session_model.specs.declared.reply.Reply.{Reply}
 use Rattle.session_model.specs.declared.entry.TreeEntry.{TreeEntry}
@@ -16,6 +15,7 @@ use Rattle.session_run.specs.Made.{HasRun, on_tree}
 use Rattle.lower_tree.specs.Held.{HeldNames, HeldBodies, TellAll}
 use Rattle.lower_tree.specs.Making.{faults_of, sum_of_counts}
 use Rattle.job_model.specs.declared.job.Job.{Job}
+use Rattle.mount_model.specs.MountForm.{form_of_job}
 use Rattle.served_model.specs.declared.end.ReportEnd.{ReportEnd}
 use Rattle.served_model.specs.declared.end.ReportEnd.TheVariants.{Image, Stuck}
 use Rattle.served_model.specs.declared.end.TheConstants.{MAKER_PART}
@@ -40,14 +40,15 @@ report_of replies log end = record { sessions = replies ∷ []; histories = reco
 pub record IsRun (job : Job) (script : List Op) (before mounted after : Maker) (first now : HeldNames) (bodies : List HeldBodies) (start : PlainTree) (kept : List (List ℕ)) (last : PlainTree) (names : List (List ℕ))
     (log : List TreeEntry) (replies : List Reply) (end : ReportEnd) : Type 0 where
   pub one : job.scripts ≡ script ∷ []
-  pub is_mounted : IsMounted before job.image (parts_of first bodies) start kept
+  pub laws : IsForm (form_of_job job)
+  pub is_mounted : IsMounted (form_of_job job) before job.image (parts_of first bodies) start kept
   pub unchanged : IsUnchanged before mounted
   pub history : IsTreeLog start first.faults log last now.faults
   pub calls : AreScriptCalls (script ∷ []) (on_tree log) (replies ∷ [])
   pub told : now.told ≡ first.told
   pub tree : IsTree last.places
-  pub keeps : now.told ≡ true → Keeps plain last.places names now.entries
-  pub stays : first.told ≡ true → Stays plain start.places kept first.entries last.places names now.entries
+  pub keeps : now.told ≡ true → Keeps (form_of_job job) last.places names now.entries
+  pub stays : first.told ≡ true → Stays (form_of_job job) start.places kept first.entries last.places names now.entries
   pub down : IsTakenDown mounted after (parts_of now bodies) end
 
 module _ (job : Job) (script : List Op) (before mounted after : Maker) (first now : HeldNames) (bodies : List HeldBodies) (start : PlainTree) (kept : List (List ℕ)) (last : PlainTree) (names : List (List ℕ))
@@ -62,7 +63,7 @@ module _ (job : Job) (script : List Op) (before mounted after : Maker) (first no
     opening = record {
       is_tree = run.is_mounted.is_tree;
       limit = run.is_mounted.limit;
-      shown = λ tells. is_shown job.image first now bodies start kept last names (run.is_mounted.tells tells);
+      shown = λ tells. is_shown (form_of_job job) job.image first now bodies start kept last names (run.is_mounted.tells tells);
     };
     faults = now.faults;
     tree_history = subst (λ (n : ℕ). IsTreeLog start n log last now.faults) (run.is_mounted.fresh.calm 0) run.history;
@@ -86,7 +87,7 @@ module _ (job : Job) (script : List Op) (before mounted after : Maker) (first no
       lawful = ends.lawful;
       leaves = λ tells.
           (let t = run.is_mounted.tells tells in
-          leaves job.image first now bodies start kept last names t (run.stays t.tell.names) (run.keeps (run.told ∙ t.tell.names)) run.tree image ends.lawful (ends.same (run.unchanged.tells ∙ tells) (all_tell tells)));
+          leaves (form_of_job job) job.image first now bodies start kept last names t (run.stays t.tell.names) run.laws (run.keeps (run.told ∙ t.tell.names)) run.tree image ends.lawful (ends.same (run.unchanged.tells ∙ tells) (all_tell tells)));
       calm = ends.calm ∙ run.unchanged.faults;
       text = spelled;
     },

@@ -5,7 +5,7 @@ use Rattle.lower_model.specs.declared.node.LowerNode.{LowerNode}
 use Rattle.lower_model.specs.LowerTree.{IsLowerTree}
 use Rattle.tree_model.specs.PlainTree.{PlainTree}
 use Rattle.tree_model.specs.IsTree.{IsTree}
-use Rattle.names_model.specs.NameForm.{plain}
+use Rattle.names_model.specs.NameForm.{NameForm}
 use Rattle.names_model.specs.LowerPaths.{tree_paths}
 use Rattle.opening_model.specs.Openings.{ShowsTree}
 use Rattle.lower_tree.specs.Held.{HeldParts, TellAll, HoldTree, paths_held}
@@ -25,18 +25,18 @@ pub record IsUnchanged (before after : Maker) : Type 0 where
   pub faults : after.faults ≡ before.faults
   pub tallies : (part : ℕ) → after.tallies part ≡ before.tallies part
 
--- The parts tell that they hold the tree of the image, and the plain tree over them is what the image shows.
-pub record TellsImage (image : List LowerNode) (parts : HeldParts) (tree : PlainTree) (kept : List (List ℕ)) : Type 0 where
+-- The parts tell that they hold the tree of the image, and the plain tree over them is what the image shows under this form of names.
+pub record TellsImage (form : NameForm) (image : List LowerNode) (parts : HeldParts) (tree : PlainTree) (kept : List (List ℕ)) : Type 0 where
   pub tell : TellAll parts
   pub hold : HoldTree parts image
-  pub shows : ShowsTree plain parts.names.entries tree kept
+  pub shows : ShowsTree form parts.names.entries tree kept
 
 -- The parts of an image are mounted: no call on them has failed, and as far as the maker tells they hold the image's tree.
-pub record IsMounted (maker : Maker) (image : List LowerNode) (parts : HeldParts) (tree : PlainTree) (kept : List (List ℕ)) : Type 0 where
+pub record IsMounted (form : NameForm) (maker : Maker) (image : List LowerNode) (parts : HeldParts) (tree : PlainTree) (kept : List (List ℕ)) : Type 0 where
   pub fresh : AreFresh parts
   pub is_tree : IsTree tree.places
-  pub limit : tree.limit ≡ plain.longest
-  pub tells : maker.tells ≡ true → TellsImage image parts tree kept
+  pub limit : tree.limit ≡ form.longest
+  pub tells : maker.tells ≡ true → TellsImage form image parts tree kept
 
 -- the maker failed to split the image, or its names to be opened
 abbrev pub FailsToMount : Maker → Maker → MountError → Type 0

@@ -5,12 +5,15 @@ ghost use Rattle.job_model.specs.JobText.{IsJobText, IsNoJob};
 ghost use Rattle.mount_run.specs.InputAndOutput.{maker_of, Writes};
 
 use crate::output::Output;
+use crate::ring::name_key;
 use crate::serve::serve;
 use crate::show::show;
 use crate::status::OK;
 use crate::words::Command;
+use job_model::NameCoding;
 use job_text::{Job, JobError, read_job};
 use lower_tree::LowerMaker;
+use name_tag70::{PlainNames, Tag70};
 use std::alloc::{AllocError, Global};
 
 // The job with this text, and the room in which the text stood.
@@ -23,6 +26,23 @@ fn job_of(alloc: Global, octets: Vec<u8>) -> Result<(Job, Vec<u8>), JobError>
     let mut room = octets;
     room.clear();
     Ok((job, room))
+}
+
+// The report of a job, under its form of names.
+fn report_of<M: LowerMaker>(alloc: Global, job: Job, lower: &mut M) -> Result<Output, AllocError>
+    requires lawful { IsJob job }
+    requires served { IsServedSoFar job }
+    ensures { IfOk result (λ out. Writes Command.Replay job (maker_of M.tells M.count M.tally_of lower.old) (maker_of M.tells M.count M.tally_of lower.new) out.status out.text.items) }
+{
+    match job.names {
+        NameCoding::Plain => serve(alloc, job, lower, PlainNames),
+        NameCoding::Tag70 => {
+            let form = Tag70::new(name_key(&job.namesalt, job.passphrase.as_slice()));
+            let output = serve(alloc, job, lower, &form);
+            form.end();
+            output
+        }
+    }
 }
 
 // The output of a command for a job, which may be written into this room.
@@ -42,7 +62,7 @@ fn output_of<M: LowerMaker>(
     match command {
         Command::Replay => {
             drop(room);
-            serve(alloc, job, lower)
+            report_of(alloc, job, lower)
         }
         Command::Show => Ok(Output {
             status: OK,

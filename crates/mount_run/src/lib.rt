@@ -2,6 +2,7 @@
 #![tactic(auto)]
 
 mod answer;
+mod listed;
 mod memory;
 mod mount;
 mod mounted_tree;

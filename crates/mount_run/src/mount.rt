@@ -1,5 +1,6 @@
 ghost use Rattle.std.specs.Prelude.{◌≡◌, ℕ, [], true, length, IfOk, IfErr};
 ghost use Rattle.lower_tree.specs.Held.{TellAll, stores};
+ghost use Rattle.name_form.specs.FormOf.{form_of};
 ghost use Rattle.lower_tree.specs.Making.{held_parts, HoldSomeTree};
 ghost use Rattle.mount_run.specs.InputAndOutput.{maker_of};
 ghost use Rattle.mount_run.specs.Mounted.{IsUnchanged, IsMounted, FailsToMount, IsTakenDown, status_of};
@@ -7,16 +8,16 @@ ghost use Rattle.mount_run.specs.Mounted.{IsUnchanged, IsMounted, FailsToMount, 
 use crate::status::{LOWER_FAULT, OK};
 use lower_model::LowerTree;
 use lower_tree::{LowerError, LowerMaker, LowerNames, Parts};
-use name_tag70::PlainNames;
+use name_form::NameForm;
 use namespace::{Names, NamesFault};
 use served_model::{MAKER_PART, NAMES_PART, ReportEnd};
 use std::alloc::{AllocError, Global};
 
 /// A lower tree that is mounted.
 #[derive(Drop)]
-pub struct Mounted<N: LowerNames, B> {
+pub struct Mounted<N: LowerNames, U: NameForm, B> {
     /// The tree over its names.
-    pub names: Names<N, PlainNames>,
+    pub names: Names<N, U>,
     /// Its stores of bodies.
     pub bodies: Vec<B>,
 }
@@ -37,14 +38,16 @@ pub enum MountError {
     Memory,
 }
 
-/// Mounts a lower tree. After an error the maker has all parts back.
-pub fn mount<M: LowerMaker>(
+/// Mounts a lower tree under a form of names. After an error the maker has all parts back.
+pub fn mount<M: LowerMaker, U: NameForm + Drop>(
     alloc: Global,
     lower: &mut M,
     image: LowerTree,
-) -> Result<Mounted<M::N, M::B>, MountError>
-    ensures mounted { IfOk result (λ m. IsMounted (maker_of M.tells M.count M.tally_of lower.old) image (held_parts M.N.held M.B.held m.names.lower m.bodies.items) m.names.tree m.names.kept) }
+    form: U,
+) -> Result<Mounted<M::N, U, M::B>, MountError>
+    ensures mounted { IfOk result (λ m. IsMounted (form_of (U.upper form) (U.written form) (U.longest form)) (maker_of M.tells M.count M.tally_of lower.old) image (held_parts M.N.held M.B.held m.names.lower m.bodies.items) m.names.tree m.names.kept) }
     ensures log { IfOk result (λ m. m.names.log ≡ []) }
+    ensures form { IfOk result (λ m. m.names.form ≡ form) }
     ensures unchanged { IfOk result (λ m. IsUnchanged (maker_of M.tells M.count M.tally_of lower.old) (maker_of M.tells M.count M.tally_of lower.new)) }
     ensures fails { IfErr result (FailsToMount (maker_of M.tells M.count M.tally_of lower.old) (maker_of M.tells M.count M.tally_of lower.new)) }
 {
@@ -61,7 +64,7 @@ pub fn mount<M: LowerMaker>(
         Err(LowerError::Memory) => return Err(MountError::Memory),
     };
     let Parts { names, bodies } = parts;
-    match Names::new(alloc, names, PlainNames) {
+    match Names::new(alloc, names, form) {
         Ok(names) => Ok(Mounted { names, bodies }),
         Err(
             NamesFault::Lower {

@@ -1,18 +1,39 @@
 ghost use Rattle.std.specs.Prelude.{◌≡◌, ◌≤◌, length};
-ghost use Rattle.key_model.specs.PassphraseKey.{passphrase_key, key_signature};
+ghost use Rattle.job_model.specs.declared.limits.TheConstants.{LONGEST_PASSPHRASE};
+ghost use Rattle.mount_model.specs.MountForm.{key_of};
 
 use packet_set::OneKeyRing;
 use passphrase_key::derive;
+use secret_key::{Fnek, Kek};
+
+// The key of this passphrase under this salt, and its signature.
+fn key_of(salt: &[u8; 8], passphrase: &[u8]) -> (Kek, [u8; 8])
+    requires some { 1 ≤ length passphrase.now }
+    requires few { length passphrase.now ≤ LONGEST_PASSPHRASE }
+    ensures { record { signature = result.1; key = result.0 } ≡ key_of salt.now passphrase.now }
+{
+    match derive(salt, passphrase) {
+        Ok(derived) => derived,
+        Err(_) => unreachable!(),
+    }
+}
 
 /// The ring of this passphrase, of 1 to 64 octets, under this salt. It has to be ended.
 pub fn passphrase_ring(salt: &[u8; 8], passphrase: &[u8]) -> OneKeyRing
     requires some { 1 ≤ length passphrase.now }
-    requires few { length passphrase.now ≤ 64 }
-    ensures { let key = passphrase_key salt.now passphrase.now in result ≡ record { signature = key_signature key; key = key } }
+    requires few { length passphrase.now ≤ LONGEST_PASSPHRASE }
+    ensures { result ≡ key_of salt.now passphrase.now }
 {
-    let Ok(derived) = derive(salt, passphrase) else {
-        unreachable!()
-    };
-    let (kek, signature) = derived;
+    let (kek, signature) = key_of(salt, passphrase);
     OneKeyRing::new(kek, signature)
+}
+
+/// The key of names of this passphrase, of 1 to 64 octets, under this salt. It has to be spent.
+pub fn name_key(salt: &[u8; 8], passphrase: &[u8]) -> Fnek
+    requires some { 1 ≤ length passphrase.now }
+    requires few { length passphrase.now ≤ LONGEST_PASSPHRASE }
+    ensures { result ≡ key_of salt.now passphrase.now }
+{
+    let (kek, signature) = key_of(salt, passphrase);
+    Fnek::new(kek, signature)
 }

@@ -2,6 +2,8 @@ ghost use Rattle.std.specs.Prelude.{◌≡◌, ◌∷◌, [], length, IfOk};
 ghost use Rattle.std.specs.List.{AllByRecursion};
 ghost use Rattle.script_model.specs.Script.{IsTreeScript};
 ghost use Rattle.job_model.specs.Job.{IsJob};
+ghost use Rattle.name_form.specs.FormOf.{form_of};
+ghost use Rattle.mount_model.specs.MountForm.{form_of_job};
 ghost use Rattle.mount_run.specs.declared.words.Command.TheVariants.{Replay};
 ghost use Rattle.mount_run.specs.InputAndOutput.{maker_of, Writes};
 
@@ -12,6 +14,7 @@ use crate::status::LOWER_FAULT;
 use job_text::Job;
 use lower_model::Items;
 use lower_tree::{LowerMaker, Parts};
+use name_form::NameForm;
 use report_text::{write_report, write_stuck};
 use script_model::Op;
 use session::{Script, Session};
@@ -30,17 +33,23 @@ fn only_script(scripts: Items<Items<Op>>) -> Vec<Op>
     }
 }
 
-/// The report of a job with one session, whose script runs on the tree of the image, over parts that the maker splits off
-/// and unites; or that of a run that a failure of the maker or of the names ended.
-pub fn serve<M: LowerMaker>(alloc: Global, job: Job, lower: &mut M) -> Result<Output, AllocError>
+/// The report of a job with one session, whose script runs on the tree of the image under the job's form of names, over parts that
+/// the maker splits off and unites; or that of a run that a failure of the maker or of the names ended.
+pub fn serve<M: LowerMaker, U: NameForm + Drop>(
+    alloc: Global,
+    job: Job,
+    lower: &mut M,
+    form: U,
+) -> Result<Output, AllocError>
     requires lawful { IsJob job }
     requires one_session { length job.scripts ≡ 1 }
+    requires form { form_of (U.upper form) (U.written form) (U.longest form) ≡ form_of_job job }
     requires tree_calls { AllByRecursion IsTreeScript job.scripts }
     ensures { IfOk result (λ out. Writes Replay job (maker_of M.tells M.count M.tally_of lower.old) (maker_of M.tells M.count M.tally_of lower.new) out.status out.text.items) }
 {
     let Job { image, scripts, .. } = job;
     let session = Session::new(alloc, 0, Script::new(only_script(scripts)))?;
-    let Mounted { names, bodies } = match mount(alloc, lower, image) {
+    let Mounted { names, bodies } = match mount(alloc, lower, image, form) {
         Ok(mounted) => mounted,
         Err(
             MountError::Stuck {

@@ -17,7 +17,7 @@ use turn_lock::Link;
 
 /// The form in which a lower name may have a tilde in front, and a written one has.
 #[derive(Clone, Copy)]
-struct Tilde;
+pub(crate) struct Tilde;
 
 /// A lower name without the tilde in front, where it has one.
 fn without_tilde(lower: &[u8]) -> &[u8]
@@ -143,9 +143,11 @@ fn answer(alloc: Global, names: &mut Names<MemNames, Tilde>, line: &str) -> Resu
     let mut octets = Vec::new(alloc);
     match names.step(alloc, Link::new(alloc)?, 0, 0, call(alloc, line)?) {
         TreeReply::Names(all) => {
-            for shown in all.as_slice() {
+            let mut rest = all.entries();
+            while let Some((_, name, behind)) = rest.split_first() {
                 octets.push(b'/')?;
-                octets.extend_from_slice(shown.name.octets())?;
+                octets.extend_from_slice(name)?;
+                rest = behind;
             }
         }
         TreeReply::Refused(refusal) => {

@@ -1,11 +1,13 @@
 //! Whole runs, tested by the public calls of `mount_run`: printed texts, faults one at a time, and the largest tree; and the tree over
-//! lower names in memory, under a form in which two lower names may stand for one upper name.
+//! lower names in memory and its listing, under a form in which two lower names may stand for one upper name.
 #![tactic(auto)]
 
 #[cfg(test)]
 mod faults;
 #[cfg(test)]
 mod foreign;
+#[cfg(test)]
+mod listings;
 #[cfg(test)]
 mod lower_faults;
 #[cfg(test)]

@@ -1,8 +1,6 @@
 use Rattle.std.proofs.Common.{◌≡◌, ℕ, List, inr, ap, subst, sym, ◌∙◌, map}
 use Rattle.answer_model.specs.Count.{Rose}
-use Rattle.names_model.specs.NameForm.{NameForm}
-use Rattle.name_tag70.proofs.SameNames.{plain_form}
-use Rattle.opening_model.specs.Openings.{ShowsTree}
+use Rattle.name_form.specs.FormOf.{form_of}
 use Rattle.lower_tree.specs.Held.{HeldNames, HeldBodies}
 use Rattle.lower_tree.specs.Making.{sum_of_counts, faults_of}
 use Rattle.served_model.specs.declared.end.TheConstants.{NAMES_PART}
@@ -19,13 +17,13 @@ returns-in-Ok-new-clause-mounted g c =
     let opened = c.in-Ok-new.ensures in
     let old : HeldNames = held c.in-Ok.parts.names in
     let names = c.in-Ok-new.names in
-    mounted (maker_of g.M.LowerMaker.tells g.M.LowerMaker.count g.M.LowerMaker.tally_of c.args.lower.now) c.args.image old (held names.lower) (map g.M.B.LowerBodies.held c.in-Ok.parts.bodies.items) names.tree names.kept
+    mounted (form_of (g.U.NameForm.upper c.args.form) (g.U.NameForm.written c.args.form) (g.U.NameForm.longest c.args.form)) (maker_of g.M.LowerMaker.tells g.M.LowerMaker.count g.M.LowerMaker.tally_of c.args.lower.now) c.args.image old (held names.lower) (map g.M.B.LowerBodies.held c.in-Ok.parts.bodies.items) names.tree names.kept
     (record { fresh = split.fresh; tell = split.tell; hold = split.hold })
     (record {
       faults = opened.faults;
       told = opened.told;
       stays = opened.stays;
-      shows = λ tells. subst (λ (form : NameForm). ShowsTree form old.entries names.tree names.kept) plain_form (opened.shows tells);
+      shows = opened.shows;
       is_tree = opened.tree;
       limit = opened.limit;
     })

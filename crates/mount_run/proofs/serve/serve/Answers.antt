@@ -1,8 +1,9 @@
 use Rattle.std.proofs.Common.{◌≡◌, ℕ, List, [], map, ap, sym, ◌∙◌, subst}
-use Rattle.name_tag70.proofs.SameNames.{plain_form}
-use Rattle.names_model.specs.NameForm.{NameForm, plain}
+use Rattle.mount_run.proofs.FormLaws.{is_form}
+use Rattle.mount_model.specs.MountForm.{form_of_job}
+use Rattle.names_model.specs.NameForm.{NameForm}
 use Rattle.names_model.proofs.FilesFit.{files_fit}
-use Rattle.namespace_model.specs.Carried.{Keeps}
+use Rattle.namespace_model.specs.Carried.{IsForm, Keeps}
 use Rattle.lower_model.specs.declared.kind.Kind.TheVariants as kinds
 use Rattle.lower_model.specs.LowerTree.{HoldsOctets}
 use Rattle.names_model.specs.LowerPaths.{LowerFile}
@@ -13,7 +14,8 @@ use Rattle.session_run.specs.Made.{HasRun}
 use Rattle.served_model.specs.ReportText.{report_text}
 use Rattle.mount_run.specs.declared.words.Command.TheVariants.{Replay}
 use Rattle.mount_run.specs.InputAndOutput.{maker_of, Writes}
-use Rattle.mount_run.specs.Mounted.{IsTakenDown}
+use Rattle.name_form.specs.FormOf.{form_of}
+use Rattle.mount_run.specs.Mounted.{IsMounted, IsTakenDown}
 use Rattle.mount_run.specs.GoesOn.{GoesOn}
 use Rattle.mount_run.proofs.GoingOn.{goes_on_none}
 use Rattle.mount_run.proofs.Serving.{IsRun, ran_script, report_of, writes}
@@ -48,7 +50,12 @@ returns g c =
     let log = now.log in
     let replies = c.run_session-session.result.replies in
     let end = c.in_ok-end.end in
-    let so_far : GoesOn held plain opening now = subst (λ (form : NameForm). GoesOn held form opening now) plain_form (c.run_session-session.ensures.lawful (record { names = opening }) (goes_on_none held _ opening m.log)) in
+    let U = g.U.NameForm in
+    let opens_by : form_of (U.upper opening.form) (U.written opening.form) (U.longest opening.form) ≡ form_of_job job = rw m.form c.requires.form in
+    let laws : IsForm (form_of_job job) = subst IsForm c.requires.form
+    (is_form (U.upper c.args.form) (U.written c.args.form) (U.longest c.args.form) (g.met.U.NameForm.reads_written c.args.form) (g.met.U.NameForm.reads_names c.args.form) (g.met.U.NameForm.writes_names c.args.form)) in
+    let so_far : GoesOn held (form_of_job job) opening now = subst (λ (form : NameForm). GoesOn held form opening now) opens_by (c.run_session-session.ensures.lawful (record { names = opening }) (goes_on_none held _ opening m.log)) in
+    let now_by : form_of (U.upper now.form) (U.written now.form) (U.longest now.form) ≡ form_of_job job = rw so_far.same_form opens_by in
     let began : c.in_ok-session.session.session ≡ fresh 0 script = ap (λ (s : Member). s.session) c.in_ok-session.ensures ∙ ap (fresh 0) c.new.ensures in
     let ran_session : HasRun (fresh 0 script) [] log replies =
     subst (λ (l : List TreeEntry). HasRun (fresh 0 script) l log replies) m.log (subst (λ (s : Session). HasRun s opening.log log replies) began c.run_session-session.ensures.runs) in
@@ -57,13 +64,14 @@ returns g c =
     let down : IsTakenDown mounted after (parts_of (held now.lower) bodies) end = rw lower at c.in_ok-end.ensures in
     let run : IsRun job script before mounted after (held opening.lower) (held now.lower) bodies opening.tree opening.kept now.tree now.kept log replies end = record {
       one = c.only_script.ensures;
-      is_mounted = m.mounted;
+      laws = laws;
+      is_mounted = subst (λ (form : NameForm). IsMounted form before job.image (parts_of (held opening.lower) bodies) opening.tree opening.kept) c.requires.form m.mounted;
       unchanged = m.unchanged;
       history = so_far.history;
       calls = ran_script script log replies ran_session;
       told = so_far.told;
       tree = ended.tree;
-      keeps = λ tells. subst (λ (form : NameForm). Keeps form now.tree.places now.kept (held now.lower).entries) plain_form (ended.keeps tells);
+      keeps = λ tells. subst (λ (form : NameForm). Keeps form now.tree.places now.kept (held now.lower).entries) now_by (ended.keeps tells);
       stays = so_far.stays;
       down = down;
     } in
