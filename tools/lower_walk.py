@@ -1,22 +1,21 @@
-"""The walk over a lower tree, its batches, and the job that is made of a batch.
+"""The walk over a lower tree, and where its entries come in the target.
 
 Nothing here writes to the lower tree, and nothing follows a link in it: each directory is opened from the root on, part by part.
 """
 import os
 import stat
-from collections import Counter
 from dataclasses import dataclass, field
 from enum import Enum, auto
 from typing import NamedTuple
 
+from keys import Seals
 from metadata import METADATA_ROOM, MOST_BODY, MOST_CONTENT, attribute_of, metadata_of
-from texts import MOST_ENTRIES, attribute_field, body_length, entry_head, image_head, job_end, job_head
+from texts import MOST_ENTRIES
 
-MOST_BATCH = 67_108_864
-PIECE = 1_048_576
 DIRECTORY_ONLY = os.O_RDONLY | os.O_DIRECTORY | os.O_NOFOLLOW
 FILE_ONLY = os.O_RDONLY | os.O_NOFOLLOW | os.O_NONBLOCK | os.O_NOCTTY
 CHANGED = "changed while it was read"
+FOREIGN, BELOW_FOREIGN = "foreign", "below a foreign directory"
 
 
 class Kind(Enum):
@@ -51,16 +50,34 @@ class Entry:
     kind: Kind
     found: Found | None
     why: str | None = None  # why its octets aren't read
-    first: "Entry | None" = None  # where a file has several names, the one that was met first
+    first: "Entry | None" = None  # where a file has several names, the one under which it is read
     attribute: int | None = None  # the octets of its attribute
     size: int = 0  # the octets of its content, as its metadata tells them
+    is_encrypted: bool = False  # whether it has metadata
+    name: bytes | None = None  # its upper name, where that isn't its lower one
+    no_name: str | None = None  # why it has no upper name
     upper: bytes | None = None  # its path in the target, once that is known
     ours: bool = False  # whether it stands in the target, written by this program
 
     @property
+    def lower_name(self):
+        """The last part of its path."""
+        return os.path.basename(self.path)
+
+    @property
+    def target_name(self):
+        """The last part of its path in the target; where it has no upper name, as a show text tells it."""
+        return self.lower_name if self.no_name else self.name or self.lower_name
+
+    @property
+    def cause(self):
+        """Why it is left out, as far as that is known before its octets are read."""
+        return self.no_name or self.why
+
+    @property
     def is_read(self):
         """Whether its octets go into a job."""
-        return self.kind is Kind.FILE and self.why is None and self.first is None
+        return self.kind is Kind.FILE and self.cause is None and self.first is None
 
     @property
     def body(self):
@@ -123,11 +140,10 @@ def unreadable(error):
 
 @dataclass
 class LowerTree:
-    """The entries in preorder, those of a directory in octet order; what they are sealed with; the first name of each file."""
+    """The entries in preorder, those of a directory in octet order; what they are sealed with; where each file is read."""
 
     entries: list = field(default_factory=list)
-    encrypted: list = field(default_factory=list)
-    pairs: Counter = field(default_factory=Counter)
+    seals: Seals = field(default_factory=Seals)
     firsts: dict = field(default_factory=dict)
 
 
@@ -151,8 +167,8 @@ def look_into(tree, entry, folder, name):
     entry.attribute = None if attribute is None else len(attribute)
     if metadata is None:
         return
-    tree.encrypted.append(entry)
-    tree.pairs.update(metadata.pairs)
+    entry.is_encrypted = True
+    tree.seals.add_file(metadata)
     if metadata.size > MOST_CONTENT:
         entry.why = f"too large: {metadata.size} octets"
     else:
@@ -206,6 +222,7 @@ def walk(root, tell=lambda count: None):
     while waiting:
         entry = waiting.pop()
         tree.entries.append(entry)
+        tree.seals.add_name(entry.lower_name)
         if len(tree.entries) % 1000 == 0:
             tell(len(tree.entries))
         if entry.kind is Kind.DIRECTORY and entry.level == MOST_ENTRIES:
@@ -216,141 +233,32 @@ def walk(root, tell=lambda count: None):
     return tree
 
 
-# ---- batches ----
+# ---- paths in the target ----
 
 
-class Batch:
-    """Entries that go through the program in one job, with the directories above them, in preorder."""
-
-    def __init__(self, own=()):
-        self.own, self.nodes, self.members, self.octets = [], [], set(), 0
-        for entry in own:
-            self.add(entry)
-
-    def missing(self, entry):
-        """The entry and the directories above it, as far as they aren't here yet, from above."""
-        missing = []
-        while entry is not None and entry not in self.members:
-            missing.append(entry)
-            entry = entry.parent
-        return missing[::-1]
-
-    def has_room(self, entry):
-        """Whether the entry fits into the batch; one entry alone always does."""
-        fits = not self.own or self.octets + entry.octets <= MOST_BATCH
-        return fits and len(self.nodes) + len(self.missing(entry)) <= MOST_ENTRIES
-
-    def add(self, entry):
-        """Adds an entry that stands behind the others in preorder."""
-        missing = self.missing(entry)
-        self.own.append(entry)
-        self.nodes += missing
-        self.members.update(missing)
-        self.octets += entry.octets
-
-    def halves(self):
-        """Two batches with the same entries."""
-        middle = len(self.own) // 2
-        return Batch(self.own[:middle]), Batch(self.own[middle:])
+def hand_over(tree, entry):
+    """Reads a file of several names under this one, where the one that was met first has no place in the target."""
+    first = tree.firsts[entry.found.st_ino]
+    if first.no_name is None or entry.no_name is not None:
+        entry.first = first
+        return
+    for name in ("why", "attribute", "size", "is_encrypted"):
+        setattr(entry, name, getattr(first, name))
+    entry.first, tree.firsts[entry.found.st_ino] = None, entry
 
 
-def batches_of(entries):
-    """The batches of these entries, which stand in preorder."""
-    batch = Batch()
-    for entry in entries:
-        if batch.own and not batch.has_room(entry):
-            yield batch
-            batch = Batch()
-        batch.add(entry)
-    if batch.own:
-        yield batch
-
-
-# ---- the job of a batch ----
-
-
-def head_of(entry):
-    """The fields of an entry in front of its attribute."""
-    return entry_head(entry.level, entry.kind is not Kind.DIRECTORY, os.path.basename(entry.path))
-
-
-def length_of(entry):
-    """The octets of an entry in an image."""
-    if entry.kind is Kind.DIRECTORY:
-        return len(head_of(entry))
-    attribute = 5 + entry.attribute if entry.is_read and entry.attribute is not None else 1
-    return len(head_of(entry)) + attribute + 4 + entry.body
-
-
-class Unread(Exception):
-    """Why a file can't be read as the walk found it."""
-
-
-def check_unchanged(entry, file):
-    """Unread where the open file is another than the walk found."""
-    if entry.is_changed(os.fstat(file)):
-        raise Unread(CHANGED)
-
-
-def body_pieces(entry, file):
-    """The body of an open file, in pieces."""
-    left = entry.body
-    while left:
-        piece = os.read(file, min(left, PIECE))
-        if not piece:
-            raise Unread(CHANGED)
-        left -= len(piece)
-        yield piece
-
-
-def file_pieces(entry, folders):
-    """The attribute of a file and then the pieces of its body; Unread where it isn't as the walk found it."""
-    file = None
-    try:
-        folder, name = folders.above(entry.path)
-        file = os.open(name, FILE_ONLY, dir_fd=folder)
-        check_unchanged(entry, file)
-        attribute = attribute_of(file)
-        if (None if attribute is None else len(attribute)) != entry.attribute:
-            raise Unread(CHANGED)
-        yield attribute
-        yield from body_pieces(entry, file)
-        check_unchanged(entry, file)
-    except OSError as error:
-        raise Unread(unreadable(error)) from None
-    finally:
-        if file is not None:
-            os.close(file)
-
-
-def file_fields(entry, folders, faults):
-    """The fields of a file behind its head; where it can't be read `faults` tells why, and zeros stand for its octets."""
-    pieces, attribute, left = file_pieces(entry, folders), None if entry.attribute is None else bytes(entry.attribute), entry.body
-    try:
-        attribute = next(pieces)
-    except Unread as why:
-        faults[entry] = str(why)
-    yield attribute_field(attribute) + body_length(entry.body)
-    try:
-        for piece in pieces:
-            left -= len(piece)
-            yield piece
-    except Unread as why:
-        faults[entry] = str(why)
-    while left:
-        zeros = min(left, PIECE)
-        left -= zeros
-        yield bytes(zeros)
-
-
-def job_pieces(batch, key, names, folders, faults):
-    """The job of a batch, in pieces; a file that can't be read comes into `faults`."""
-    length = len(image_head(0)) + sum(length_of(entry) for entry in batch.nodes)
-    yield job_head(key.passphrase, key.salt, names, length) + image_head(len(batch.nodes))
-    for entry in batch.nodes:
-        yield head_of(entry)
-        if entry.is_read:
-            yield from file_fields(entry, folders, faults)
-        elif entry.kind is not Kind.DIRECTORY:
-            yield attribute_field(None) + body_length(0)
-    yield job_end()
+def set_paths(tree):
+    """Gives each entry its path in the target, from the upper names; of several equal ones in a directory the first has it."""
+    taken = set()
+    for entry in tree.entries:
+        front = entry.parent.upper + b"/" if entry.parent else b""
+        if entry.parent is not None and entry.parent.no_name:
+            entry.no_name = BELOW_FOREIGN
+        elif front + entry.target_name in taken:
+            entry.no_name = FOREIGN
+        entry.upper = front + entry.target_name
+        if entry.no_name is None:
+            taken.add(entry.upper)
+    for entry in tree.entries:
+        if entry.first is not None:
+            hand_over(tree, entry)

@@ -7,6 +7,7 @@ import hashlib
 import os
 import struct
 from dataclasses import dataclass
+from functools import cache
 
 ATTRIBUTE = "user.ecryptfs"
 METADATA_ROOM = 4096
@@ -75,6 +76,7 @@ def metadata_of(octets):
     return Metadata(size, pairs_of(octets[:METADATA_ROOM]))
 
 
+@cache
 def signature_of(passphrase, salt):
     """The signature of the key that the passphrase makes with this salt."""
     key = salt + passphrase

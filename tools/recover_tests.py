@@ -6,9 +6,10 @@
 The last line is `recover: N passed, M failed`, and the status is 1 where any test failed. Bodies are drawn: any octets are the
 cipher text of some content, which one run of `show` tells.
 """
-import hashlib
+import argparse
 import importlib.util
 import os
+import pty
 import shutil
 import socket
 import stat
@@ -18,32 +19,15 @@ import sys
 import tempfile
 import unittest
 from importlib.machinery import SourceFileLoader
+from unittest import mock
 
-TOOLS = os.path.dirname(os.path.abspath(__file__))
-TOP = os.path.dirname(TOOLS)
-LINUX = os.path.join(TOP, "tests", "linux")
-PROGRAM = os.path.abspath(sys.argv[1]) if sys.argv[1:] else os.path.join(TOP, "crates", "mount_prog", "out", "mount_prog")
-SALT, OTHER_SALT = bytes.fromhex("0011223344556677"), bytes.fromhex("8899aabbccddeeff")
+from content_jobs import batches_of
+from lower_walk import Entry, Found, Kind
+from testing import LINUX, PROGRAM, SALT, TOOLS, TOP, drawn, read, run_over_program, signature
+
+OTHER_SALT = bytes.fromhex("8899aabbccddeeff")
 SIZES = [0, 1, 4096, 5000, 70_000]
 SECONDS = 100
-
-
-def read(path):
-    with open(path, "rb") as file:
-        return file.read()
-
-
-def drawn(what, length):
-    return hashlib.shake_256(what.encode()).digest(length)
-
-
-def signature(salt):
-    key = salt + b"test"
-    for _ in range(65_537):
-        key = hashlib.sha512(key).digest()
-    return key[:8]
-
-
 SIGNATURES = {salt: signature(salt) for salt in (SALT, OTHER_SALT)}
 
 
@@ -110,9 +94,12 @@ class Recover(unittest.TestCase):
         os.chmod(self.write("program", text.encode()), 0o755)
         return ["--program", self.at("program")]
 
-    def run_tool(self, *words, within=()):
-        command = [*within, sys.executable, os.path.join(TOOLS, "recover"), *words]
-        return subprocess.run(command, capture_output=True, cwd=self.room, stdin=subprocess.DEVNULL, timeout=SECONDS)
+    def run_tool(self, *words, within=(), patch="", given=b""):
+        """Runs the tool; `patch` are lines of Python that stand in front of it, in place of calls of the system."""
+        tool = os.path.join(TOOLS, "recover")
+        patched = f"import os, runpy, sys\nsys.path.insert(0, {TOOLS!r})\n{patch}\nrunpy.run_path({tool!r}, run_name='__main__')"
+        command = [*within, sys.executable, *(["-c", patched] if patch else [tool]), "--program", PROGRAM, *words]
+        return subprocess.run(command, capture_output=True, cwd=self.room, input=given, timeout=SECONDS, start_new_session=True)
 
     def recover(self, *words, lower="lower", target="home", **more):
         return self.run_tool("--passphrase-file", self.at("passphrase"), "--jobs", "2", lower, target, *words, **more)
@@ -209,6 +196,45 @@ class Trees(Recover):
             self.assertEqual((found.st_uid, found.st_gid), (1234, 5678))
         os.chmod(self.at("lower/sub"), 0o755)
 
+    def test_a_file_is_written_under_a_number_for_its_owner_alone(self):
+        self.write("lower/1", BODIES[1])
+        os.chmod(self.at("lower/1"), 0o644)
+        look = '[ "$calls" -eq 2 ] || exec $program "$@"\n$program "$@"\nsleep 1\nfind home -type f -printf "%P %m %s\\n" > seen'
+        self.recovered(*self.program(look))
+        self.assertRegex(read(self.at("seen")), rb"^\.recover-[0-9a-f]{8}/1 600 1\n$")
+        self.assertEqual(stat.S_IMODE(os.stat(self.at("home/1")).st_mode), 0o644)
+
+    def test_bodies_with_holes(self):
+        octets = metadata(70_000).ljust(8192, b"\0") + bytes(18 * 4096)
+        self.write("lower/whole", octets)
+        self.write("lower/holes", octets[:8192])
+        os.truncate(self.at("lower/holes"), len(octets))
+        self.write("lower/1", BODIES[1])
+        os.truncate(self.at("lower/1"), 1 << 33)
+        self.recovered()
+        whole = read(self.at("home/whole"))
+        self.assertEqual(len(whole), 70_000)
+        self.assertEqual((read(self.at("home/holes")), read(self.at("home/1"))), (whole, self.contents[1]))
+
+    def test_the_passphrase_is_asked_for(self):
+        self.lower(1)
+        # (without a terminal the question and the answer go over the standard streams)
+        ran = self.run_tool("lower", "home", given=b"test\n")
+        self.assertEqual(ran.returncode, 0, ran.stderr)
+        self.assert_whole(["1", "sub/1"])
+
+    def test_a_line_of_progress_on_a_terminal(self):
+        self.lower(1, 70_000)
+        ours, theirs = pty.openpty()
+        words = ["--program", self.program('[ "$calls" -eq 2 ] && sleep 1\nexec $program "$@"')[1], "--passphrase-file", self.at("passphrase")]
+        command = [sys.executable, os.path.join(TOOLS, "recover"), *words, self.at("lower"), self.at("home")]
+        ran = subprocess.run(command, stdout=subprocess.PIPE, stderr=theirs, timeout=SECONDS)
+        os.close(theirs)
+        with os.fdopen(ours, "rb", buffering=0) as terminal:
+            shown = terminal.read(100_000)
+        self.assertRegex(shown, rb"\r\x1b\[K0 files, 0 of 0 MB, 0 MB/s.*\r\x1b\[K$")
+        self.assertEqual((ran.returncode, ran.stdout.count(b"\n")), (0, 1))
+
     def test_hard_links_stay_links(self):
         self.lower(5000)
         os.link(self.at("lower/5000"), self.at("lower/sub/5000_again"))
@@ -264,6 +290,55 @@ class LeftOut(Recover):
         self.assert_whole(["1", "sub/1"])
         os.chmod(self.at("lower/shut"), 0o755)
 
+    def test_an_error_of_the_disk_is_named(self):
+        self.lower(1, 5000)
+        self.write("lower/shut/1", BODIES[1])
+        patch = """
+def failing(call, end):
+    def called(file, *more):
+        if isinstance(file, int) and os.readlink(f"/proc/self/fd/{file}").endswith(end):
+            raise OSError(5, "Input/output error")
+        return call(file, *more)
+    return called
+os.read, os.listdir = failing(os.read, "/sub/5000"), failing(os.listdir, "/shut")
+"""
+        wanted = {"/sub/5000": "unreadable: Input/output error", "/shut": "unreadable: Input/output error"}
+        self.assertEqual(self.left_out(self.recover(patch=patch)), wanted)
+        self.assert_whole(["1", "sub/1", "5000"])
+
+    def test_what_stands_on_another_file_system_is_named(self):
+        self.lower(1)
+        os.makedirs(self.at("lower/sub/disk"))
+        if os.geteuid() or subprocess.run(["mount", "-t", "tmpfs", "none", self.at("lower/sub/disk")], capture_output=True).returncode:
+            self.skipTest("no small file system can be mounted")
+        self.addCleanup(subprocess.run, ["umount", self.at("lower/sub/disk")])
+        self.write("lower/sub/disk/1", BODIES[1])
+        self.assertEqual(self.left_out(self.recover()), {"/sub/disk": "on another file system"})
+        self.assert_whole(["1", "sub/1"])
+
+    def test_what_the_target_refuses(self):
+        self.lower(1, 5000)
+        os.mkdir(self.at("lower/colon"))
+        self.write("lower/colon/1", BODIES[1])
+        patch = """
+def refusing(call, refused):
+    def called(first, *more, **words):
+        if refused in (first, *more):
+            raise OSError(22, "Invalid argument")
+        return call(first, *more, **words)
+    return called
+def utime(*words, **more):
+    raise PermissionError(1, "Operation not permitted")
+os.rename, os.mkdir, os.utime = refusing(os.rename, b"5000"), refusing(os.mkdir, b"colon"), utime
+"""
+        ran = self.recover(patch=patch)
+        refused = "refused by the target: Invalid argument"
+        wanted = {"/5000": refused, "/sub/5000": refused, "/colon": refused, "/colon/1": "below a directory that was left out"}
+        self.assertEqual(self.left_out(ran), wanted)
+        # (five files are marked, before two of them are refused; one directory, and the target itself)
+        self.assertIn(b"\n6 times the target refused an owner, a mode or times\n", ran.stdout)
+        self.assert_whole(["1", "sub/1"])
+
     def test_a_file_that_changes_meanwhile_is_named(self):
         self.lower(1)
         large = self.write("lower/large", body(4_000_000))
@@ -284,9 +359,9 @@ class LeftOut(Recover):
         self.write("home/1", b"other")
         os.mkdir(self.at("elsewhere"))
         os.symlink("../elsewhere", self.at("home/sub"))
-        left_out = self.left_out(self.recover())
-        self.assertEqual(left_out["/1"], "in the way in the target")
-        self.assertEqual(sorted(left_out), ["/1", "/sub", "/sub/1"])
+        there = "in the way in the target"
+        wanted = {"/1": there, "/sub": there, "/sub/1": "below a directory that was left out"}
+        self.assertEqual(self.left_out(self.recover()), wanted)
         self.assertEqual((read(self.at("home/1")), os.listdir(self.at("elsewhere"))), (b"other", []))
         self.assertTrue(os.path.islink(self.at("home/sub")))
 
@@ -295,9 +370,9 @@ class LeftOut(Recover):
         lines = "ecryptfs-show 1\\nf 1 /../evil good 1 41\\nend\\n"
         ran = self.recover(*self.program(f'[ "$calls" -eq 1 ] && exec $program "$@"\ncat > job\nprintf "{lines}"'))
         self.assertEqual(ran.returncode, 4, ran.stderr)
-        self.assertIn(b"3 of 3 entries left out", ran.stdout)
+        self.assertIn(b"2 of 3 entries left out", ran.stdout)
         self.assertFalse(os.path.exists(self.at("evil")))
-        self.assertEqual(os.listdir(self.at("home")), [])
+        self.assertEqual([names for _, _, names in os.walk(self.at("home"))], [[], []])
 
 
 class Refusals(Recover):
@@ -336,14 +411,15 @@ class Refusals(Recover):
         self.refused(self.recover(), b"the lower tree is " + self.at("private"))
         self.refused(self.recover(lower="away"), b"away: No such file")
 
-    def test_coded_names_are_told(self):
+    def test_a_program_that_does_not_read_coded_names(self):
         self.write("lower/sub/ECRYPTFS_FNEK_ENCRYPTED.FWabc", BODIES[1])
-        self.refused(self.recover(), b"coded names aren't read yet")
+        program = self.program('cat > job$$\ngrep -aq "^names tag70" job$$ && exit 3\nexec $program "$@" < job$$')
+        self.refused(self.recover(*program), b"doesn't do an empty job with tag70 names (status 3)")
 
     def test_a_program_that_is_none(self):
         self.lower(1)
         self.refused(self.recover("--program", self.at("away")), b"No such file or directory")
-        self.refused(self.recover(*self.program("exit 3")), b"doesn't do an empty job (status 3)")
+        self.refused(self.recover(*self.program("exit 3")), b"doesn't do an empty job with plain names (status 3)")
 
     def test_a_record_and_a_list_that_are_none(self):
         self.lower(1)
@@ -353,17 +429,46 @@ class Refusals(Recover):
             self.assertEqual(read(self.at(name)), b"mine\n")
             os.remove(self.at(name))
 
-    def test_an_ecryptfs_is_found_among_the_mounts(self):
-        loader = SourceFileLoader("recover", os.path.join(TOOLS, "recover"))
-        recover = importlib.util.module_from_spec(importlib.util.spec_from_loader("recover", loader))
-        loader.exec_module(recover)
-        rows = ["36 35 98:0 / / rw - ext4 /dev/sda rw", "40 36 0:52 / /home/u rw shared:1 master:2 - ecryptfs /home/.ecryptfs rw"]
-        self.assertEqual(recover.ecryptfs_devices(rows), {"0:52"})
-
     def test_words_and_help(self):
         self.assertEqual(self.run_tool("lower").returncode, 2)
         self.assertEqual(self.recover("--jobs", "0").returncode, 2)
         self.assertIn(b"is no part of what is proved", self.run_tool("--help").stdout)
+
+
+class Parts(unittest.TestCase):
+    """What no run shows."""
+
+    @classmethod
+    def setUpClass(cls):
+        loader = SourceFileLoader("recover", os.path.join(TOOLS, "recover"))
+        cls.recover = importlib.util.module_from_spec(importlib.util.spec_from_loader("recover", loader))
+        loader.exec_module(cls.recover)
+
+    def test_batches_are_within_their_bounds(self):
+        entry = lambda path, parent, kind, size: Entry(path, parent, kind, Found(1, size, 0, 0, 0, 0, 0, 0))
+        above = None
+        for depth in range(1, 11):
+            above = entry(b"d" * (2 * depth - 1), above, Kind.DIRECTORY, 0)
+        sizes = [30_000_000] * 5 + [68_000_000] + [1] * 9000
+        files = [entry(b"%s/%05d" % (above.path, number), above, Kind.FILE, size) for number, size in enumerate(sizes)]
+        batches = [*batches_of(files)]
+        self.assertEqual([each for batch in batches for each in batch.own], files)
+        self.assertEqual([len(batch.own) for batch in batches], [2, 2, 1, 1, 4085, 4085, 830])
+        for batch in batches:
+            self.assertLessEqual(len(batch.nodes), 4095)
+            self.assertTrue(len(batch.own) == 1 or sum(each.octets for each in batch.own) <= 67_108_864)
+
+    def test_an_ecryptfs_is_found_among_the_mounts(self):
+        rows = ["36 35 98:0 / / rw - ext4 /dev/sda rw", "40 36 0:52 / /home/u rw shared:1 master:2 - ecryptfs /home/.ecryptfs rw"]
+        self.assertEqual(self.recover.ecryptfs_devices(rows), {"0:52"})
+
+    def test_programs_are_within_the_processors_and_half_of_the_memory(self):
+        gibibyte, wanted = 1 << 30, {(8, 2): 2, (8, 64): 8, (4, 0.5): 1, (1, 64): 1}
+        for (processors, memory), count in wanted.items():
+            sizes = {"SC_PAGE_SIZE": 4096, "SC_PHYS_PAGES": int(memory * gibibyte) // 4096}
+            with mock.patch("os.sysconf", sizes.get), mock.patch("os.sched_getaffinity", lambda process: range(processors)):
+                self.assertEqual(self.recover.jobs_for(argparse.Namespace(jobs=None)), count)
+                self.assertEqual(self.recover.jobs_for(argparse.Namespace(jobs=3)), 3)
 
 
 class Again(Recover):
@@ -379,8 +484,8 @@ class Again(Recover):
         self.assertIn(b"the same command goes on from here", ran.stderr)
         first = os.listdir(self.at("home"))
         self.assertEqual([name for name in first if name.startswith(b".recover")], [])
-        self.assertEqual(len(first), 4095)
-        self.assertIn(b"\n4095 entries stood there", self.recovered())
+        self.assertEqual(len(first), 1 + 4095)
+        self.assertIn(b"\n4096 entries stood there", self.recovered())
         self.assert_whole(paths)
 
     def test_a_second_start_does_what_was_added_or_changed(self):
@@ -398,6 +503,19 @@ class Again(Recover):
         self.write("home/1", b"mine")
         self.assertEqual(self.left_out(self.recover()), {"/1": "in the way in the target"})
         self.assertEqual((read(self.at("home/1")), read(self.at("home/sub/1"))), (b"mine", self.contents[1]))
+
+    def test_a_record_in_another_place(self):
+        self.lower(1)
+        self.write("lower/bad", b"x")
+        os.mkdir(self.at("records"))
+        record = ["--record", "records/one"]
+        self.assertEqual(self.recover(*record).returncode, 3)
+        self.assertEqual(sorted(os.listdir(self.at("records"))), [b"one", b"one.left_out"])
+        self.assertFalse(os.path.exists(self.at("home.recover")))
+        self.assertIn(b"0 files and 0 directories written, 0 octets\n3 entries stood there", self.recover(*record).stdout)
+        there = "in the way in the target"
+        below = "below a directory that was left out"
+        self.assertEqual(self.left_out(self.recover()), {"/1": there, "/bad": "bad short 1", "/sub": there, "/sub/1": below})
 
     def test_a_record_that_was_cut_goes_on(self):
         self.lower(1)
@@ -432,20 +550,5 @@ class Again(Recover):
         self.assertIn(b"the files have 9000000 octets, and ", ran.stderr)
 
 
-def main():
-    if not os.access(PROGRAM, os.X_OK):
-        print(f"there is no program {PROGRAM}: build it by 'cd crates/mount_prog && rt run'\nrecover: 0 passed, 1 failed")
-        return 1
-    tests = unittest.defaultTestLoader.loadTestsFromModule(sys.modules[__name__])
-    count = tests.countTestCases()
-    ran = unittest.TextTestRunner(stream=sys.stdout).run(tests)
-    # (the parts of a test may fail each for itself: the test counts once)
-    bad = {getattr(test, "test_case", test).id() for test, _ in ran.failures + ran.errors}
-    for test, why in ran.skipped:
-        print(f"left out: {test.id()}: {why}")
-    print(f"recover: {count - len(bad) - len(ran.skipped)} passed, {len(bad)} failed")
-    return 1 if bad or count == 0 else 0
-
-
 if __name__ == "__main__":
-    sys.exit(main())
+    sys.exit(run_over_program(__name__, "recover"))

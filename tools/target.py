@@ -88,9 +88,9 @@ class Record:
             raise TargetFull(f"{spelled_path(self.path)}: {error.strerror}") from None
         self.length += len(line) + 1
 
-    def add(self, entry, upper):
+    def add(self, entry):
         """Adds what is about to stand in the target."""
-        paths = f"/{spelled_path(entry.path)} /{spelled_path(upper)}".encode()
+        paths = f"/{spelled_path(entry.path)} /{spelled_path(entry.upper)}".encode()
         is_directory = entry.kind is Kind.DIRECTORY
         self.write(b"d " + paths if is_directory else b"f %d %d " % (entry.found.st_size, entry.found.st_mtime_ns) + paths)
 
@@ -120,16 +120,14 @@ class Target:
             return None
 
     def is_done(self, entry):
-        """Whether the record has the entry as it is now, and it stands there; then its path is set."""
+        """Whether the record has the entry as it is now, and it stands there."""
         known = self.record.known.get(entry.path)
-        if known is None or entry.found is None or entry.why and entry.kind is Kind.DIRECTORY:
+        if known is None or known.upper != entry.upper or entry.found is None or entry.why and entry.kind is Kind.DIRECTORY:
             return False
         now = (None, None) if entry.kind is Kind.DIRECTORY else (entry.found.st_size, entry.found.st_mtime_ns)
         standing = self.standing(known.upper) if now == (known.size, known.time) else None
-        if standing is None or stat.S_IFMT(standing.st_mode) != stat.S_IFMT(entry.found.st_mode):
-            return False
-        entry.upper, entry.ours = known.upper, True
-        return True
+        entry.ours = standing is not None and stat.S_IFMT(standing.st_mode) == stat.S_IFMT(entry.found.st_mode)
+        return entry.ours
 
     def begin(self):
         """Makes the folder where it isn't there, and in it the one for files that aren't whole."""
@@ -169,9 +167,9 @@ class Target:
 
     # ---- files and directories ----
 
-    def change(self, entry, upper, work):
-        """Does `work` with the open directory above a path and the last part of the path."""
-        folder, name = self.folders.above(upper)
+    def change(self, entry, work):
+        """Does `work` with the open directory above an entry's path and the last part of the path."""
+        folder, name = self.folders.above(entry.upper)
         try:
             work(folder, name)
         except PermissionError:
@@ -181,61 +179,59 @@ class Target:
             os.chmod(folder, os.stat(folder).st_mode & NO_SET_ID | 0o700)
             work(folder, name)
 
-    def make_directory(self, entry, upper):
-        """Makes a directory; gives why it isn't made."""
-        if entry.upper is not None:
-            return None
-        entry.upper, standing = upper, self.standing(upper)
-        is_known = entry.path in self.record.known and self.record.known[entry.path].upper == upper
-        if standing is not None and not (is_known and stat.S_ISDIR(standing.st_mode)):
-            return THERE
-        entry.ours = True
-        if standing is not None:
-            return None
-        try:
-            self.record.add(entry, upper)
-            self.change(entry, upper, lambda folder, name: os.mkdir(name, 0o700, dir_fd=folder))
-        except OSError as error:
-            entry.ours = False
-            return refusal(error)
-        return None
-
-    def is_own_file(self, entry, upper, standing):
-        """Whether what stands there is what an earlier start wrote for the entry, untouched since."""
+    def is_known(self, entry):
+        """Whether an earlier start put the entry at its path."""
         known = self.record.known.get(entry.path)
-        same_place = known is not None and known.upper == upper and stat.S_ISREG(standing.st_mode)
-        return same_place and standing.st_mtime_ns == known.time
+        return known is not None and known.upper == entry.upper
 
-    def place(self, entry, upper, put):
-        """Puts a file at its path by `put`, which gets the open directory and the name; gives why it isn't put."""
-        standing = self.standing(upper)
-        if standing is not None and not self.is_own_file(entry, upper, standing):
+    def make_directory(self, entry):
+        """Makes a directory; gives why it isn't made."""
+        standing = self.standing(entry.upper)
+        if standing is not None and not (self.is_known(entry) and stat.S_ISDIR(standing.st_mode)):
             return THERE
-        try:
-            self.record.add(entry, upper)
-            self.change(entry, upper, put)
-        except OSError as error:
-            return refusal(error)
-        entry.upper, entry.ours = upper, True
+        if standing is None:
+            try:
+                self.record.add(entry)
+                self.change(entry, lambda folder, name: os.mkdir(name, 0o700, dir_fd=folder))
+            except OSError as error:
+                return refusal(error)
+        entry.ours = True
         return None
 
-    def place_file(self, entry, upper, number):
+    def is_own_file(self, entry, standing):
+        """Whether what stands there is what an earlier start wrote for the entry, untouched since."""
+        return self.is_known(entry) and stat.S_ISREG(standing.st_mode) and standing.st_mtime_ns == self.record.known[entry.path].time
+
+    def place(self, entry, put):
+        """Puts a file at its path by `put`, which gets the open directory and the name; gives why it isn't put."""
+        standing = self.standing(entry.upper)
+        if standing is not None and not self.is_own_file(entry, standing):
+            return THERE
+        try:
+            self.record.add(entry)
+            self.change(entry, put)
+        except OSError as error:
+            return refusal(error)
+        entry.ours = True
+        return None
+
+    def place_file(self, entry, number):
         """Gives the file under this number its marks and its name; gives why it doesn't stand there."""
         written = b"%d" % number
         self.mark(written, self.room, entry.found)
-        why = self.place(entry, upper, lambda folder, name: os.rename(written, name, src_dir_fd=self.room, dst_dir_fd=folder))
+        why = self.place(entry, lambda folder, name: os.rename(written, name, src_dir_fd=self.room, dst_dir_fd=folder))
         if why:
             os.unlink(written, dir_fd=self.room)
         return why
 
-    def place_link(self, entry, upper):
+    def place_link(self, entry):
         """Makes a further name of a file that stands there; gives why it isn't made."""
         if not entry.first.ours:
             return "another name of a file that was left out"
         first = Folders(self.root)
         try:
             above, old = first.above(entry.first.upper)
-            return self.place(entry, upper, lambda folder, name: link_over(old, above, name, folder))
+            return self.place(entry, lambda folder, name: link_over(old, above, name, folder))
         finally:
             first.close()
 

@@ -11,17 +11,14 @@ import io
 import os
 import re
 import socket
-import struct
 import subprocess
 import sys
 import tarfile
 import tempfile
 import unittest
 
-TOOLS = os.path.dirname(os.path.abspath(__file__))
-TOP = os.path.dirname(TOOLS)
-LINUX = os.path.join(TOP, "tests", "linux")
-PROGRAM = os.path.abspath(sys.argv[1]) if sys.argv[1:] else os.path.join(TOP, "crates", "mount_prog", "out", "mount_prog")
+from testing import LINUX, PROGRAM, SALT, TOOLS, TOP, UTILS_NAME_SALT, coded, drawn, read, run_tests, signature
+
 XATTR = "SCHILY.xattr.user.ecryptfs"
 
 # The texts as docs/TEXTS.md has them, written out by hand.
@@ -67,9 +64,16 @@ def shown_files(text):
     return {row[2][1:]: bytes.fromhex(row[5].decode().strip("-")) for row in rows if row[3:4] == [b"good"]}
 
 
-def read(path):
-    with open(path, "rb") as file:
-        return file.read()
+def metadata(salt, cipher=7):
+    """The attribute of a file that is sealed with the passphrase `test` under this salt."""
+    fixed = bytes(8) + bytes.fromhex("00000000 3c81b7f5 03000002 00001000 0002")
+    tag3 = bytes([0x8C, 0x1D, 4, cipher, 3, 1]) + salt + b"\x60" + bytes(16)
+    return fixed + tag3 + bytes.fromhex("ed166208") + b"_CONSOLE" + bytes(4) + signature(salt)
+
+
+def coded_name(name_signature, cipher=7):
+    """A coded lower name with this signature."""
+    return coded(b"\x46\x29" + name_signature + bytes([cipher]) + drawn("name", 32))
 
 
 def files_below(folder):
@@ -234,7 +238,8 @@ class Pack(Tools):
     def test_links_and_devices_in_a_tar_file_are_refused(self):
         for kind in (tarfile.SYMTYPE, tarfile.LNKTYPE, tarfile.CHRTYPE, tarfile.BLKTYPE, tarfile.FIFOTYPE):
             with self.subTest(kind):
-                self.refused(self.pack(self.tar(("a", io.BytesIO(b"")), ("b", kind))), b"neither a file nor a directory")
+                why = b"a link to another file" if kind == tarfile.LNKTYPE else b"neither a file nor a directory"
+                self.refused(self.pack(self.tar(("a", io.BytesIO(b"")), ("b", kind))), why)
 
     def test_a_tree_over_the_limit_of_a_job_is_refused(self):
         os.mkdir(self.at("tree"))
@@ -313,6 +318,118 @@ class Pack(Tools):
             self.assertNotEqual(self.run_tool("pack", "tree", *words).returncode, 0)
 
 
+class PackKeys(Tools):
+    """The form of names and the salts that stand in the job, and what is told of a tree that doesn't open."""
+
+    HINT = b" (the passphrase of the mount isn't that of the login"
+
+    def tree(self, *names, attribute=None):
+        """A folder with empty files of these names, one of which has the attribute."""
+        os.makedirs(self.at("tree"), exist_ok=True)
+        for name in names:
+            self.write(os.path.join(b"tree", name).decode(), b"")
+        if attribute is not None:
+            self.set_attribute(self.write("tree/sealed", b""), attribute)
+        return "tree"
+
+    def settings(self, ran):
+        """The salts and the form of names of the job."""
+        self.assertEqual(ran.returncode, 0, ran.stderr)
+        lines = re.search(rb"\nsalt (.*)\nnamesalt (.*)\nnames (.*)\n", ran.stdout)
+        return tuple(lines.groups())
+
+    def test_coded_names_and_their_salt_are_found(self):
+        for salt in (UTILS_NAME_SALT, SALT):
+            with self.subTest(salt):
+                tree = self.tree(coded_name(signature(salt)), b"clear")
+                ran = self.pack(tree)
+                self.assertEqual(self.settings(ran), (SALT.hex().encode(), salt.hex().encode(), b"tag70"))
+                self.assertEqual(ran.stderr, b"")
+                os.remove(os.path.join(self.at(tree), coded_name(signature(salt)).decode()))
+
+    def test_a_coded_name_below_a_directory_of_a_tar_file(self):
+        tree = self.tar(("a/" + coded_name(signature(UTILS_NAME_SALT)).decode(), tarfile.DIRTYPE))
+        self.assertEqual(self.settings(self.pack(tree))[1:], (UTILS_NAME_SALT.hex().encode(), b"tag70"))
+
+    def test_the_form_of_names_can_be_given(self):
+        tree = self.tree(coded_name(bytes(8)))
+        ran = self.pack(tree, "--names", "plain")
+        self.assertEqual((self.settings(ran)[2], ran.stderr), (b"plain", b""))
+        os.mkdir(self.at("clear"))
+        self.assertEqual(self.settings(self.pack("clear", "--names", "tag70")), (SALT.hex().encode(), SALT.hex().encode(), b"tag70"))
+        self.assertEqual(self.settings(self.pack("clear"))[2], b"plain")
+
+    def test_the_salt_of_names_can_be_given(self):
+        other = bytes.fromhex("0123456789abcdef")
+        ran = self.pack(self.tree(coded_name(signature(other))), "--namesalt", other.hex())
+        self.assertEqual((self.settings(ran)[1], ran.stderr), (other.hex().encode(), b""))
+        self.refused(self.pack("tree", "--namesalt", "01"), b"a salt has 16 hexadecimal digits")
+
+    def test_the_salt_of_files_is_found(self):
+        other = bytes.fromhex("0123456789abcdef")
+        ran = self.pack(self.tree(coded_name(signature(other)), attribute=metadata(other)))
+        self.assertEqual((self.settings(ran), ran.stderr), ((other.hex().encode(), other.hex().encode(), b"tag70"), b""))
+
+    def told(self, ran, line):
+        """One line on standard error, and the job is written all the same."""
+        self.settings(ran)
+        self.assertEqual(ran.stderr.count(b"\n"), 1, ran.stderr)
+        self.assertIn(line, ran.stderr)
+
+    def test_a_passphrase_that_opens_no_file_is_told(self):
+        tree = self.tree(coded_name(signature(UTILS_NAME_SALT)), attribute=metadata(SALT))
+        self.write("passphrase", b"other")
+        signatures = f"its signature is {signature(SALT, b'other').hex()}, that of the files {signature(SALT).hex()}"
+        self.told(self.pack(tree), b"pack: no file opens with this passphrase: " + signatures.encode() + self.HINT)
+
+    def test_a_passphrase_that_opens_no_name_is_told(self):
+        ours = f"{signature(UTILS_NAME_SALT).hex()} or {signature(SALT).hex()}"
+        line = f"pack: no name opens with this passphrase: its signature is {ours}, that of the names 0001020304050607"
+        self.told(self.pack(self.tree(coded_name(bytes(range(8))), attribute=metadata(SALT))), line.encode() + self.HINT)
+
+    def test_aes_256_is_told(self):
+        name = coded_name(signature(UTILS_NAME_SALT), cipher=9)
+        self.told(self.pack(self.tree(name)), b"pack: the names are encrypted by AES-256, which isn't read yet\n")
+        self.tree(coded_name(signature(UTILS_NAME_SALT)))
+        self.told(self.pack("tree"), b"pack: some names are encrypted by AES-256, which isn't read yet: 1 of 2\n")
+        self.set_attribute(self.write("tree/sealed", b""), metadata(SALT, cipher=9))
+        self.told(self.pack("tree"), b"pack: the files are encrypted by AES-256, which isn't read yet\n")
+
+    def test_names_that_are_cut_make_a_job_all_the_same(self):
+        for name in (b"ECRYPTFS_FNEK_ENCRYPTED.", b"ECRYPTFS_FNEK_ENCRYPTED.FW", b"ECRYPTFS_FNEK_ENCRYPTED." + b"!" * 60):
+            ran = self.pack(self.tree(name))
+            self.assertEqual((self.settings(ran)[2], ran.stderr), (b"tag70", b""))
+
+    def test_trees_that_linux_wrote(self):
+        # (the names of the second have a salt of their own)
+        for name, words in {"linux_header_plain": [], "linux_attribute_plain": ["--namesalt", "9988776655443322"]}.items():
+            octets = read(os.path.join(LINUX, name + ".job"))
+            setting = lambda word: re.search(rb"\n" + word + b" (.*)\n", octets)[1]
+            self.write("passphrase", bytes.fromhex(setting(b"passphrase").decode()))
+            members = [(path.decode(), tarfile.DIRTYPE if file is None else io.BytesIO(file[1])) for path, file in entries_of(image_in(octets))]
+            ran = self.pack(self.tar(*members), *words)
+            self.assertEqual((self.settings(ran), ran.stderr), ((setting(b"salt"), setting(b"namesalt"), b"tag70"), b""))
+
+
+class LeaveOut(Tools):
+    def test_links_devices_and_second_names_in_a_folder(self):
+        os.mkdir(self.at("tree"))
+        os.link(self.write("tree/f", b"x"), self.at("tree/g"))
+        os.symlink("f", self.at("tree/a\nb"))
+        os.mkfifo(self.at("tree/pipe"))
+        ran = self.pack("tree", "--leave-out")
+        neither = b"pack: left out, it is neither a file nor a directory: /"
+        wanted = [neither + b"a%0ab", b"pack: left out, it is a link to another file of the tree: /g", neither + b"pipe"]
+        self.assertEqual((ran.returncode, ran.stderr.splitlines()), (0, wanted))
+        self.assertEqual(entries_of(image_in(ran.stdout)), [(b"f", (None, b"x"))])
+
+    def test_links_and_devices_in_a_tar_file(self):
+        kinds = (tarfile.SYMTYPE, tarfile.LNKTYPE, tarfile.CHRTYPE, tarfile.BLKTYPE, tarfile.FIFOTYPE)
+        ran = self.pack(self.tar(("a", io.BytesIO(b"")), *((f"b{number}", kind) for number, kind in enumerate(kinds))), "--leave-out")
+        self.assertEqual((ran.returncode, ran.stderr.count(b"pack: left out, ")), (0, 5), ran.stderr)
+        self.assertEqual(entries_of(image_in(ran.stdout)), [(b"a", (None, b""))])
+
+
 class Unpack(Tools):
     def unpack(self, *lines, folder="folder"):
         text = b"".join(line + b"\n" for line in (b"ecryptfs-show 1", *lines, b"end"))
@@ -350,6 +467,15 @@ class Unpack(Tools):
         self.assertTrue(ran.stderr.endswith(b"\nunpack: no file opens with this passphrase and salt\n"), ran.stderr)
         ran = self.unpack(b"f 1 /a " + wrong_key, b"f 2 /b good 0 -", folder="other")
         self.assertTrue(ran.stderr.endswith(b"\nunpack: 1 of 2 entries were left out\n"), ran.stderr)
+
+    def test_that_no_name_could_be_read_is_told(self):
+        foreign = [b"x 2 /clear/" + coded_name(bytes(8)), b"x 3 /" + coded_name(bytes(8))]
+        ran = self.unpack(b"d 1 /clear", *foreign)
+        self.assertEqual((ran.returncode, ran.stderr.count(b"\n")), (4, 3))
+        self.assertTrue(ran.stderr.endswith(b"\nunpack: no name of a file could be read with this passphrase and name salt\n"), ran.stderr)
+        ran = self.unpack(b"d 1 /clear", *foreign, b"f 4 /f empty", folder="other")
+        self.assertTrue(ran.stderr.endswith(b"\nunpack: 2 of 4 entries were left out\n"), ran.stderr)
+        self.assertEqual(ran.returncode, 3)
 
     def test_an_empty_folder_is_taken_and_another_refused(self):
         os.mkdir(self.at("empty"))
@@ -454,6 +580,12 @@ class UnpackReport(Tools):
                 self.refused(self.unpack("folder", given=text), b"unpack: ")
                 self.assertFalse(os.path.exists(self.at("folder")))
 
+    def test_a_report_of_a_run_that_was_stuck_is_refused(self):
+        whole = report(self.IMAGE)
+        for text in [b"ecryptfs-report 1\nstuck 0 0 1\n", whole[: whole.index(b"image")] + b"stuck 9 0 1\n"]:
+            self.refused(self.unpack("folder", given=text), b"unpack: the run was stuck, and its report has no lower tree")
+        self.assertFalse(os.path.exists(self.at("folder")))
+
     def test_images_that_are_none_are_refused(self):
         faults = {
             b"\0\0\0\1b": b"no directory is open at its level",
@@ -532,7 +664,7 @@ class Trip(Tools):
     def travel(self, name, tree_of):
         """Over show: the contents are those of the show text."""
         image, text = self.linux(name)
-        packed = self.packed(tree_of(image))
+        packed = self.packed(tree_of(image), "--names", "plain")
         self.assertEqual(image_in(packed), image)
         shown = self.output("show", packed)
         self.assertEqual(shown, text)
@@ -557,11 +689,11 @@ class Trip(Tools):
         """Over replay: the lower tree afterwards has a directory more, and its files have the octets that they had."""
         image, text = self.linux(name)
         script = self.write("script", b"mkdir /new\nlist /new\n")
-        packed = self.packed(self.tar_of(image), "--script", script)
+        packed = self.packed(self.tar_of(image), "--names", "plain", "--script", script)
         given = self.output("replay", packed)
         self.assertTrue(given.startswith(b"ecryptfs-report 1\nsession 0 2\nok\nnames\n"), given[:100])
         self.assertEqual(self.run_tool("unpack", "--tar", "after.tar", given=given).returncode, 0)
-        after = self.packed("after.tar")
+        after = self.packed("after.tar", "--names", "plain")
         self.assertEqual(dict(entries_of(image_in(after))), {**dict(entries_of(image)), b"new": None})
         self.assertEqual(shown_files(self.output("show", after)), shown_files(text))
 
@@ -578,18 +710,5 @@ class Trip(Tools):
         self.assertEqual((ran.returncode, ran.stdout, ran.stderr), (3, b"", b"ecryptfs: bad job\n"))
 
 
-def main():
-    tests = unittest.defaultTestLoader.loadTestsFromModule(sys.modules[__name__])
-    count = tests.countTestCases()
-    ran = unittest.TextTestRunner(stream=sys.stdout).run(tests)
-    # (the parts of a test may fail each for itself: the test counts once)
-    bad = {getattr(test, "test_case", test).id() for test, _ in ran.failures + ran.errors}
-    left_out = len(ran.skipped)
-    for test, why in ran.skipped:
-        print(f"left out: {test.id()}: {why}")
-    print(f"tools: {count - len(bad) - left_out} passed, {len(bad)} failed")
-    return 1 if bad or count == 0 else 0
-
-
 if __name__ == "__main__":
-    sys.exit(main())
+    sys.exit(run_tests(__name__, "tools"))

@@ -81,13 +81,13 @@ def body_length(length):
     return struct.pack(">I", length)
 
 
-def job_head(passphrase, salt, names, image_length):
+def job_head(key, names, image_length):
     """The lines of a job that stand in front of its image."""
     lines = [
         "ecryptfs-job 1",
-        f"passphrase {passphrase.hex()}",
-        f"salt {salt.hex()}",
-        f"namesalt {salt.hex()}",
+        f"passphrase {key.passphrase.hex()}",
+        f"salt {key.salt.hex()}",
+        f"namesalt {key.name_salt.hex()}",
         f"names {names}",
         "meta header",
         f"random {os.urandom(32).hex()}",
