@@ -5,4 +5,5 @@ pub mod Decoding
 pub mod EcbTexts
 pub mod NamePackets
 pub mod CodedNames
+pub mod ReadNames
 pub mod Signatures

@@ -10,13 +10,14 @@ use Rattle.key_model.specs.SignedKey.{SignedKey, signatures}
 use Rattle.packet_model.specs.declared.cause.BadCause.{BadCause}
 use Rattle.packet_model.specs.Metadata.{FileMetadata, metadata, data_start, extent_count}
 use Rattle.packet_model.proofs.FileKeys.{one_unwrapped}
-use Rattle.content_model.specs.declared.content.Content.{Content}
-use Rattle.content_model.specs.declared.content.Content.TheVariants.{Empty, Good, Bad}
-use Rattle.content_model.specs.Content.{extent_at, ArePlain, DecodesTo, IsGoodContent, IsContentBy, IsContent}
+use Rattle.body_model.specs.declared.content.Content.{Content}
+use Rattle.body_model.specs.declared.content.Content.TheVariants.{Empty, Good, Bad}
+use Rattle.body_model.specs.Format.{extent_at}
+use Rattle.content_model.specs.Content.{ArePlain, DecodesTo, IsGoodContent, IsContentBy, IsContent}
 use Rattle.content_model.proofs.IvBlocks.{IsBlock-extent_iv}
 
 -- texts of whole extents are one when their extents are
-same_extents : (count : ℕ) (xs ys : List ℕ) → length xs ≡ 4096 * count → length ys ≡ 4096 * count → ((n : ℕ) → n < count → extent_at 0 xs n ≡ extent_at 0 ys n) → xs ≡ ys
+pub same_extents : (count : ℕ) (xs ys : List ℕ) → length xs ≡ 4096 * count → length ys ≡ 4096 * count → ((n : ℕ) → n < count → extent_at 0 xs n ≡ extent_at 0 ys n) → xs ≡ ys
 same_extents count xs ys long_xs long_ys same = ext_get_or 0 xs ys (long_xs ∙ sym long_ys) (λ j lt.
     let n : ℕ = j / 4096 in
     let r : ℕ = j % 4096 in

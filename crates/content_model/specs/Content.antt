@@ -1,5 +1,5 @@
 -- What a lower file decodes to, by its body and its attribute, as Linux's eCryptfs encrypts the extents of a file.
-use Rattle.std.specs.Prelude.{ℕ, ◌≡◌, ◌<◌, ◌+◌, ◌*◌, List, length, take, slice_range, Option, Some, None, Result, Ok, Err}
+use Rattle.std.specs.Prelude.{ℕ, ◌≡◌, ◌<◌, ◌*◌, List, length, take, Option, Some, None, Result, Ok, Err}
 use Rattle.octet_model.specs.Octets.{AreOctets}
 use Rattle.cipher_model.specs.Cbc.{IsCbc}
 use Rattle.key_model.specs.ExtentIv.{root_iv, extent_iv}
@@ -8,12 +8,9 @@ use Rattle.packet_model.specs.declared.cause.BadCause.{BadCause}
 use Rattle.packet_model.specs.declared.layout.TheConstants.{EXTENT_SIZE}
 use Rattle.packet_model.specs.FileKey.{Unwraps}
 use Rattle.packet_model.specs.Metadata.{FileMetadata, metadata, data_start, extent_count}
-use Rattle.content_model.specs.declared.content.Content.{Content}
-use Rattle.content_model.specs.declared.content.Content.TheVariants.{Empty, Good, Bad}
-
--- the extent with this number, counted from 0 at a start
-abbrev pub extent_at : ℕ → List ℕ → ℕ → List ℕ
-extent_at start octets n = slice_range octets (start + EXTENT_SIZE * n) (start + EXTENT_SIZE * n + EXTENT_SIZE)
+use Rattle.body_model.specs.declared.content.Content.{Content}
+use Rattle.body_model.specs.declared.content.Content.TheVariants.{Empty, Good, Bad}
+use Rattle.body_model.specs.Format.{extent_at}
 
 -- The plain text of the extents of a body from the data start on: extent n is encrypted by CBC under the file key, with the IV of n.
 pub record ArePlain (key : List ℕ) (start count : ℕ) (body plain : List ℕ) : Type 0 where

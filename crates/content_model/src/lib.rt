@@ -1,6 +1,8 @@
-//! What the lower file of an encrypted file decodes to, as definitions.
+//! What the lower file of an encrypted file decodes to, and eCryptfs as a format of bodies, as definitions.
 #![tactic(auto)]
 
-mod content;
+/// The flag of a file whose metadata stands in its attribute.
+pub const ATTRIBUTE_FLAG: u32 = 0x4;
 
-pub use content::Content;
+/// The flag of a file of a mount that codes names.
+pub const NAMES_FLAG: u32 = 0x8;

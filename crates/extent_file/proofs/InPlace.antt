@@ -7,7 +7,8 @@ use Rattle.std.proofs.lemmas.Slice.{between_is, take-put_mid_below, between-put_
 use borrow.Rule.Slice.PartMut.{put_mid}
 use Rattle.cipher_model.specs.Cbc.{IsCbc}
 use Rattle.key_model.specs.ExtentIv.{root_iv, extent_iv}
-use Rattle.content_model.specs.Content.{extent_at, ArePlain}
+use Rattle.body_model.specs.Format.{extent_at}
+use Rattle.content_model.specs.Content.{ArePlain}
 use Rattle.extent_file.specs.DecryptedExtents.{IsDecryptedTo}
 
 -- an extent that is counted from the front

@@ -5,7 +5,8 @@ use Rattle.cipher_model.specs.Cbc.{IsCbc}
 use Rattle.key_model.specs.ExtentIv.{extent_iv}
 use Rattle.packet_model.specs.declared.layout.TheConstants.{EXTENT_SIZE}
 use Rattle.packet_model.specs.Metadata.{extent_count}
-use Rattle.content_model.specs.Content.{extent_at, ArePlain}
+use Rattle.body_model.specs.Format.{extent_at}
+use Rattle.content_model.specs.Content.{ArePlain}
 
 -- of the cipher text the first n extents are now decrypted, each with the IV of its number
 pub record IsDecryptedTo (key root cipher now : List ℕ) (n : ℕ) : Type 0 where

@@ -2,12 +2,12 @@ ghost use Rattle.std.specs.Prelude.{◌≡◌, ◌+◌, ◌*◌, ◌≤◌, List
 ghost use Rattle.std.specs.Option.{option_copied};
 ghost use Rattle.key_model.specs.SignedKey.{SignedKey};
 ghost use Rattle.packet_model.specs.Metadata.{FileMetadata, FileTakesMemory, extent_count};
-ghost use Rattle.content_model.specs.declared.content.Content.{Content};
+ghost use Rattle.body_model.specs.declared.content.Content.{Content};
 ghost use Rattle.content_model.specs.Content.{IsContent, IsGoodContent};
 ghost use Rattle.xattr_meta.specs.FileMeta.{IsFileMeta};
 
 use crate::extents::{EXTENT, plain_text};
-use content_model::Content;
+use body_model::Content;
 use file_header::HeaderError;
 use lower_model::Items;
 use packet_model::{EXTENT_SIZE, MAX_SIZE};

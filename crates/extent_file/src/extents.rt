@@ -45,8 +45,8 @@ fn decrypt_extents(key: &[u8; 16], octets: &mut [u8])
     are_octets(octets);
 }
 
-// For contracts: a list that a slice of octets stands for has no greater numbers.
-fn are_octets(octets: &[u8])
+/// For contracts: a list that a slice of octets stands for has no greater numbers.
+pub fn are_octets(octets: &[u8])
     ensures { AreOctets octets.now }
 {}
 

@@ -1,2 +1,3 @@
 pub mod FieldLemmas
+mod PlainPaths
 mod Hex

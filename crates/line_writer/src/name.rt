@@ -1,10 +1,11 @@
 ghost use Rattle.std.specs.Prelude.{◌≡◌, ◌++◌, ◌∷◌, [], OnOk, OnErr};
 ghost use Rattle.octet_model.specs.Octets.{BeginsWith};
-ghost use Rattle.std.specs.List.{flat_map};
+ghost use Rattle.std.specs.List.{flat_map, list_all};
+ghost use Rattle.line_writer.specs.Fields.{is_plain_in_path};
 ghost use Rattle.text_model.specs.Line.{is_plain as plain_test, name_octet, name, slash_name, path as path_text};
 
 use std::alloc::AllocError;
-use tree_model::{Parts, Path};
+use tree_model::Parts;
 
 fn is_plain(c: u8) -> bool
     ensures { result ≡ plain_test c }
@@ -38,7 +39,8 @@ pub fn put_name(out: &mut Vec<u8>, octets: &[u8]) -> Result<(), AllocError>
     Ok(())
 }
 
-fn put_parts(out: &mut Vec<u8>, parts: Parts<'_>) -> Result<(), AllocError>
+// Names whose octets don't all stand for themselves.
+fn put_each_part(out: &mut Vec<u8>, parts: Parts<'_>) -> Result<(), AllocError>
     ensures ok { OnOk result (out.new.items ≡ out.old.items ++ flat_map slash_name parts.entry) }
     ensures err { OnErr result (BeginsWith out.new.items out.old.items) }
 {
@@ -51,25 +53,47 @@ fn put_parts(out: &mut Vec<u8>, parts: Parts<'_>) -> Result<(), AllocError>
     Ok(())
 }
 
-/// Adds a path: a slash for the root, or a slash and a name for each of its parts.
-pub fn put_path(out: &mut Vec<u8>, path: &Path) -> Result<(), AllocError>
-    ensures ok { OnOk result (out.new.items ≡ out.old.items ++ path_text path.now) }
+// Whether each octet stands for itself in a path.
+fn are_plain(octets: &[u8]) -> bool
+    ensures { result ≡ list_all is_plain_in_path octets.now }
+{
+    octets.iter().all(|c| is_plain(*c) || *c == b'/')
+}
+
+fn put_parts(out: &mut Vec<u8>, parts: Parts<'_>) -> Result<(), AllocError>
+    ensures ok { OnOk result (out.new.items ≡ out.old.items ++ flat_map slash_name parts.entry) }
     ensures err { OnErr result (BeginsWith out.new.items out.old.items) }
 {
-    let parts = path.parts();
-    if parts.is_empty() {
+    let octets = parts.octets();
+    if are_plain(octets) {
+        out.extend_from_slice(octets)?;
+        return Ok(());
+    }
+    put_each_part(out, parts)
+}
+
+/// Adds a path: a slash for the root, or a slash and a name for each of its parts.
+pub fn put_path(out: &mut Vec<u8>, path: Parts<'_>) -> Result<(), AllocError>
+    ensures ok { OnOk result (out.new.items ≡ out.old.items ++ path_text path.entry) }
+    ensures err { OnErr result (BeginsWith out.new.items out.old.items) }
+{
+    if path.is_empty() {
         out.push(b'/')?;
         return Ok(());
     }
-    put_parts(out, parts)
+    put_parts(out, path)
 }
 
 /// Adds the path of an entry: that of its directory, and its name.
-pub fn put_entry_path(out: &mut Vec<u8>, directory: &Path, name: &[u8]) -> Result<(), AllocError>
-    ensures ok { OnOk result (out.new.items ≡ out.old.items ++ path_text (directory.now ++ name.now ∷ [])) }
+pub fn put_entry_path(
+    out: &mut Vec<u8>,
+    directory: Parts<'_>,
+    name: &[u8],
+) -> Result<(), AllocError>
+    ensures ok { OnOk result (out.new.items ≡ out.old.items ++ path_text (directory.entry ++ name.now ∷ [])) }
     ensures err { OnErr result (BeginsWith out.new.items out.old.items) }
 {
-    put_parts(out, directory.parts())?;
+    put_parts(out, directory)?;
     out.push(b'/')?;
     put_name(out, name)
 }

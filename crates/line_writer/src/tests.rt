@@ -19,7 +19,7 @@ fn a_line_of_each_field(rt: HostRuntime) -> Result<(), Fail> {
     put_space(&mut out)?;
     put_name(&mut out, b"!~%\x01\x7f\xff")?;
     put_space(&mut out)?;
-    put_path(&mut out, &path)?;
+    put_path(&mut out, path.parts())?;
     put_line_end(&mut out)?;
     let line = "salt 18446744073709551615 0011abff !~%25%01%7f%ff /b%20c\n";
     assert_eq!(rt; out.as_slice(), line.as_bytes());

@@ -10,7 +10,8 @@ use Rattle.lower_model.specs.declared.node.LowerNode.{LowerNode}
 use Rattle.tree_model.specs.declared.place.Place.{Place}
 use Rattle.tree_model.specs.declared.place.Place.TheVariants.{File}
 use Rattle.tree_model.specs.IsTree.{IsDirectory}
-use Rattle.names_model.specs.LowerPaths.{LowerFile, file_in}
+use Rattle.names_model.specs.LowerPaths.{file_in}
+use Rattle.body_model.specs.LowerFile.{LowerFile}
 use Rattle.lower_mem.specs.Laid.{octets_kept}
 use Rattle.tree_model.proofs.NodeEntries.{get_append_left, slice_get-push}
 

@@ -15,7 +15,8 @@ use Rattle.tree_model.specs.declared.place.Place.TheVariants.{Dir, File, Nothing
 use Rattle.tree_model.specs.Names.{node_of, RisesBehind}
 use Rattle.tree_model.specs.Walk.{kind_of}
 use Rattle.tree_model.specs.IsTree.{IsTree, IsNode, IsDirectory, node_in}
-use Rattle.names_model.specs.LowerPaths.{LowerFile, file_in, tree_paths, paths_of}
+use Rattle.names_model.specs.LowerPaths.{file_in, tree_paths, paths_of}
+use Rattle.body_model.specs.LowerFile.{LowerFile}
 use Rattle.lower_mem.specs.Names.{store_in}
 use Rattle.lower_mem.specs.Bodies.{AllFit}
 use Rattle.tree_model.specs.PlainTree.{shown_in}

@@ -5,6 +5,9 @@ pub mod Moved
 pub mod Calls
 pub mod ShownPlaces
 pub mod ShownStore
+pub mod NodeFiles
+pub mod Written
+pub mod Changed
 pub mod Storing
 pub mod Opens
 pub mod Traced

@@ -9,7 +9,7 @@ use Rattle.lower_tree.specs.Held.{TellsFiles, TellAll, HoldTree, stores}
 use Rattle.lower_tree.specs.Making.{held_parts, faults_of, AreFresh}
 use Rattle.lower_mem.specs.Names.{NamesInMemory, names_held, store_in}
 use Rattle.lower_mem.specs.Bodies.{BodiesInMemory, bodies_held, Stored}
-use Rattle.lower_mem.proofs.Storing.{stored_files}
+use Rattle.lower_mem.proofs.Storing.{stored_files, stored_calm}
 use Rattle.lower_mem.proofs.Tallies.{faults_at}
 
 tells_at : (bodies : List BodiesInMemory) (j : ℕ) → j < length bodies → TellsFiles (slice_get (map bodies_held bodies) j)
@@ -20,13 +20,13 @@ tells_at (b ∷ bodies) (suc j) lt = tells_at bodies j (omega arith)
 pub tell_all : (names : NamesInMemory) (bodies : List BodiesInMemory) → length bodies ≡ stores → TellAll (held_parts names_held bodies_held names bodies)
 tell_all names bodies count = record { names = refl; bodies = λ k. tells_at bodies (k % stores) (omega (arith, count)) }
 
-module _ (names : NamesInMemory) (bodies : List BodiesInMemory) (nodes : List LowerNode) (s : Stored nodes bodies) where
+module _ (names : NamesInMemory) (bodies : List BodiesInMemory) (changes reads : List (ℕ × ℕ)) (nodes : List LowerNode) (s : Stored changes reads nodes bodies) where
   pub hold_tree : IsLowerTree nodes → ((k : ℕ) → store_in names.places k ≡ store_of nodes k) → HoldTree (held_parts names_held bodies_held names bodies) nodes
-  hold_tree lawful entries = record { lawful = lawful; entries = entries; files = stored_files nodes bodies s }
+  hold_tree lawful entries = record { lawful = lawful; entries = entries; files = stored_files changes reads nodes bodies s }
 
   pub are_fresh : names.plan.faults ≡ 0 → AreFresh (held_parts names_held bodies_held names bodies)
   are_fresh calm = record { stores = length-map bodies bodies_held ∙ s.count; calm = all }
     where
       all : (part : ℕ) → faults_of (held_parts names_held bodies_held names bodies) part ≡ 0
       all zero = calm
-      all (suc k) = faults_at bodies k ∙ s.calm k
+      all (suc k) = faults_at bodies k ∙ stored_calm changes reads nodes bodies s k

@@ -14,7 +14,7 @@ use Rattle.tree_model.specs.PlainTree.{PlainTree, empty_directory, kind_or_file}
 use Rattle.tree_model.specs.Shown.{shown_places}
 use Rattle.plain_tree.proofs.IsTreeLemmas.{is_tree_root, is_tree_entered}
 use Rattle.names_model.specs.declared.limits.TheConstants.{LONGEST_PLAIN_NAME}
-use Rattle.names_model.specs.LowerPaths.{LowerFile}
+use Rattle.body_model.specs.LowerFile.{LowerFile}
 use Rattle.names_model.proofs.FilesFit.{files_fit}
 use Rattle.lower_tree.specs.Held.{HeldParts, HoldTree}
 use Rattle.lower_tree.specs.Making.{HoldSomeTree}

@@ -1,5 +1,5 @@
 -- Tallies to which the faults of parts are added.
-use Rattle.std.proofs.Common.{add-one, ◌≡◌, ◌≢◌, ℕ, zero, suc, ◌<◌, ◌≤◌, ◌+◌, inl, inr, List, [], ◌∷◌, length, map, get_or, Option, Some, refl, sym, ap, ◌∙◌, arith}
+use Rattle.std.proofs.Common.{add-one, ◌≡◌, ◌≢◌, ℕ, zero, suc, ◌<◌, ◌≤◌, ◌+◌, inl, inr, List, [], ◌∷◌, length, map, get_or, Option, Some, None, refl, sym, ap, ◌∙◌, arith}
 use Rattle.std.specs.Prelude.{slice_get, slice_index_or, slice_set, unwrap_or}
 use Rattle.std.proofs.lemmas.Bool.{cases_eq, cases_lt}
 use Rattle.std.proofs.lemmas.Bool.Decides.{eqb_tells}
@@ -9,7 +9,7 @@ use Rattle.plain_tree.proofs.Places.{slice_get-set}
 use Rattle.lower_tree.specs.Held.{HeldParts, stores}
 use Rattle.lower_tree.specs.Making.{held_parts, faults_by, faults_of, sum_of_counts}
 use Rattle.lower_mem.specs.Names.{NamesInMemory, names_held}
-use Rattle.lower_mem.specs.Bodies.{BodiesInMemory, bodies_held, faults_in}
+use Rattle.lower_mem.specs.Bodies.{BodiesInMemory, bodies_held}
 use Rattle.lower_mem.specs.Making.{tally_at}
 
 -- The faults of the names and of the first stores are added.
@@ -30,6 +30,10 @@ tally-set xs i v part lt = (
     | inr f ↦ (let get : slice_get (slice_set xs i v) part ≡ slice_get xs part = slice_get-set xs i part v lt ∙ rw f.0 refl in ap (λ (o : Option ℕ). unwrap_or o 0) get)
   ],
 )
+
+abbrev pub faults_in : Option BodiesInMemory → ℕ
+faults_in (Some bodies) = (bodies_held bodies).faults
+faults_in None = 0
 
 pub faults_at : (bodies : List BodiesInMemory) (i : ℕ) → faults_by (slice_get (map bodies_held bodies) i) ≡ faults_in (slice_get bodies i)
 faults_at [] i = refl
@@ -72,11 +76,11 @@ module _ (names : NamesInMemory) (bodies : List BodiesInMemory) (old : List ℕ)
       }
 
   -- the same, as it is read and written
-  pub tallied_turn : (new : List ℕ) (i sum : ℕ) (b : BodiesInMemory) → Tallied names bodies old new i → i < 8 → length bodies ≡ stores → b ≡ get_or bodies i b → sum ≡ sum_of_counts (slice_index_or new (i + 1) 0) b.faults → Tallied names bodies old (slice_set new (i + 1) sum) (i + 1)
+  pub tallied_turn : (new : List ℕ) (i sum : ℕ) (b : BodiesInMemory) → Tallied names bodies old new i → i < 8 → length bodies ≡ stores → b ≡ get_or bodies i b → sum ≡ sum_of_counts (slice_index_or new (i + 1) 0) (bodies_held b).faults → Tallied names bodies old (slice_set new (i + 1) sum) (i + 1)
   tallied_turn new i sum b t lt count is sum_is =
       let there : slice_get bodies i ≡ Some b = slice_get-get_or bodies i b (omega (arith, count)) ∙ ap (λ (x : BodiesInMemory). Some x) (sym is) in
-      let faults : b.faults ≡ faults_in (slice_get bodies i) = ap faults_in (sym there) in
-      tallied_next new i sum t lt (sum_is ∙ ap (λ (n : ℕ). sum_of_counts n b.faults) (reads new (i + 1)) ∙ ap (λ (n : ℕ). sum_of_counts (tally_at new (i + 1)) n) faults)
+      let faults : (bodies_held b).faults ≡ faults_in (slice_get bodies i) = ap faults_in (sym there) in
+      tallied_next new i sum t lt (sum_is ∙ ap (λ (n : ℕ). sum_of_counts n (bodies_held b).faults) (reads new (i + 1)) ∙ ap (λ (n : ℕ). sum_of_counts (tally_at new (i + 1)) n) faults)
 
   past_none : (xs : List ℕ) (part : ℕ) → length xs ≤ part → tally_at xs part ≡ 0
   past_none xs part le = ap (λ (o : Option ℕ). unwrap_or o 0) (slice_get_past xs part le)

@@ -3,7 +3,7 @@ use Rattle.std.specs.Prelude.{ℕ, List, [], Option, None}
 use Rattle.lower_model.specs.declared.kind.Kind.{Kind}
 use Rattle.lower_model.specs.declared.kind.Kind.TheVariants as kinds
 use Rattle.lower_model.specs.declared.node.LowerNode.{LowerNode}
-use Rattle.names_model.specs.LowerPaths.{LowerFile}
+use Rattle.body_model.specs.LowerFile.{LowerFile}
 
 -- A directory with this number, and its entries that are still to be laid out.
 pub record Remaining : Type 0 where

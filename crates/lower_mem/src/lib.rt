@@ -9,10 +9,12 @@ mod places;
 mod plan;
 mod shown;
 mod split;
+mod stored;
 #[cfg(test)]
 mod tests;
 mod united;
 
-pub use bodies::{MemBodies, StoredFile};
+pub use bodies::MemBodies;
 pub use maker::{MemFails, MemMaker};
 pub use names::MemNames;
+pub use stored::{StoredFile, TORN};

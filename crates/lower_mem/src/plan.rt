@@ -1,5 +1,6 @@
-ghost use Rattle.std.specs.Prelude.{◌≡◌, ◌==◌, Ok, Err, if◌then◌else◌};
+ghost use Rattle.std.specs.Prelude.{◌≡◌, ◌==◌, true, false, Ok, Err, if◌then◌else◌};
 ghost use Rattle.std.specs.List.{list_any};
+ghost use Rattle.answer_model.specs.Count.{Rose};
 ghost use Rattle.lower_tree.specs.Calls.{HasCause};
 ghost use Rattle.lower_tree.specs.declared.error.LowerError.TheVariants.{Failed};
 ghost use Rattle.lower_mem.specs.Plan.{first_plan, fails_next, behind_call, or_memory};
@@ -42,17 +43,29 @@ impl FailPlan {
         }
     }
 
-    /// Counts a call, which fails if it is one of those.
-    pub(crate) fn begin(&mut self) -> Result<(), LowerError>
+    /// Counts a call, and whether it is one of those that fail.
+    pub(crate) fn count(&mut self) -> bool
         ensures plan { self.new ≡ behind_call self.old }
-        ensures failed { result ≡ (if fails_next self.old then Err Failed else Ok tt) }
-        ensures cause { HasCause self.old.faults self.new.faults result }
+        ensures fails { result ≡ fails_next self.old }
+        ensures rose { result ≡ true → Rose self.old.faults self.new.faults }
+        ensures stays { result ≡ false → self.new.faults ≡ self.old.faults }
     {
         let number = self.calls.saturating_add(1);
         let fails = has_number(&self.fails, number);
         self.calls = number;
         if fails {
             self.faults = self.faults.saturating_add(1);
+        }
+        fails
+    }
+
+    /// Counts a call, which fails if it is one of those.
+    pub(crate) fn begin(&mut self) -> Result<(), LowerError>
+        ensures plan { self.new ≡ behind_call self.old }
+        ensures failed { result ≡ (if fails_next self.old then Err Failed else Ok tt) }
+        ensures cause { HasCause self.old.faults self.new.faults result }
+    {
+        if self.count() {
             return Err(LowerError::Failed);
         }
         Ok(())

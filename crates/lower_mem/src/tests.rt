@@ -1,7 +1,7 @@
-ghost use Rattle.std.specs.Prelude.{◌≡◌, [], ◌∷◌, IfOk};
+ghost use Rattle.std.specs.Prelude.{◌≡◌, ◌≤◌, [], ◌∷◌, IfOk, length};
 ghost use Rattle.tree_model.specs.declared.place.Place.TheVariants.{Dir, File};
 
-use crate::{MemFails, MemMaker, MemNames};
+use crate::{MemBodies, MemFails, MemMaker, MemNames};
 use lower_image::{read_image, write_image};
 use lower_tree::{Kind, LowerBodies, LowerError, LowerMaker, LowerNames, MOST_ENTRIES};
 use names_model::LONGEST_PLAIN_NAME;
@@ -19,6 +19,8 @@ fn maker(alloc: Global, maker: &[u64], names: &[u64]) -> Result<MemMaker, Fail> 
     Ok(MemMaker::new(MemFails {
         maker: Vec::from_slice(alloc, maker)?,
         names: Vec::from_slice(alloc, names)?,
+        changes: Vec::from_slice(alloc, &[(1, 1), (2, 2)])?,
+        reads: Vec::from_slice(alloc, &[(1, 2)])?,
     }))
 }
 
@@ -209,5 +211,161 @@ fn tallies_faults_though_unite_fails(rt: HostRuntime) -> Result<(), Fail> {
     };
     maker.take_back(parts);
     assert_eq!(rt; (maker.faults(), maker.tally(0)), (1, 1));
+    Ok(())
+}
+
+/// A node of the store with the number 1.
+const NODE: u32 = 9;
+
+/// That store, of whose changing calls, and reading ones, those with these numbers fail.
+fn store(alloc: Global, changes: &[u64], reads: &[u64]) -> Result<MemBodies, Fail> {
+    let changes = Vec::from_slice(alloc, changes)?;
+    let reads = Vec::from_slice(alloc, reads)?;
+    Ok(MemBodies::new(alloc, 1, changes, reads))
+}
+
+/// Writes octets where there is room for them. Whether that was done.
+fn put(alloc: Global, bodies: &mut MemBodies, at: u32, octets: &[u8]) -> Result<bool, Fail> {
+    let end = u64::from(at) + octets.len() as u64;
+    let Ok(()) = bodies.reserve(alloc, NODE, end, 0) else {
+        return Err("reserve".into());
+    };
+    Ok(bodies.write_at(NODE, u64::from(at), octets).is_ok())
+}
+
+/// Sets the length. Whether that was done.
+fn resize(alloc: Global, bodies: &mut MemBodies, len: u64) -> Result<bool, Fail> {
+    let Ok(()) = bodies.reserve(alloc, NODE, len, 0) else {
+        return Err("reserve".into());
+    };
+    Ok(bodies.set_len(NODE, len).is_ok())
+}
+
+/// Sets the attribute. Whether that was done.
+fn put_attribute(alloc: Global, bodies: &mut MemBodies, attribute: &[u8]) -> Result<bool, Fail>
+    requires { 1 ≤ length attribute.now }
+{
+    let Ok(()) = bodies.reserve(alloc, NODE, 0, attribute.len()) else {
+        return Err("reserve".into());
+    };
+    Ok(bodies.set_attribute(NODE, attribute).is_ok())
+}
+
+/// The whole body, if it can be read.
+fn body(alloc: Global, bodies: &mut MemBodies) -> Result<Option<Vec<u8>>, Fail> {
+    let Ok(len) = bodies.len(NODE) else {
+        return Err("len".into());
+    };
+    let mut octets = vec![in alloc; 0u8; len as usize]?;
+    Ok(
+        bodies
+            .read_at(NODE, 0, &mut octets)
+            .is_ok()
+            .then_some(octets),
+    )
+}
+
+fn has_body(alloc: Global, bodies: &mut MemBodies, octets: &[u8]) -> Result<bool, Fail> {
+    let body = body(alloc, bodies)?;
+    Ok(body.is_some_and(|body| body.as_slice() == octets))
+}
+
+fn has_attribute(
+    alloc: Global,
+    bodies: &mut MemBodies,
+    octets: Option<&[u8]>,
+) -> Result<bool, Fail> {
+    let Ok(attribute) = bodies.attribute(alloc, NODE) else {
+        return Err("attribute".into());
+    };
+    Ok(attribute.as_ref().map(|a| a.as_slice()) == octets)
+}
+
+#[test]
+fn writes_and_resizes_at_the_edges(rt: HostRuntime) -> Result<(), Fail> {
+    let alloc = rt.alloc();
+    let mut bodies = store(alloc, &[], &[])?;
+    assert!(rt; has_body(alloc, &mut bodies, b"")?);
+    for (at, octets, body) in [
+        (0u32, "", ""),
+        (0, "abc", "abc"),
+        (1, "XY", "aXY"),
+        (3, "d", "aXYd"),
+        (2, "", "aXYd"),
+        (6, "e", "aXYd\0\0e"),
+        (2, "123456", "aX123456"),
+    ] {
+        assert!(rt; put(alloc, &mut bodies, at, octets.as_bytes())?);
+        assert!(rt; has_body(alloc, &mut bodies, body.as_bytes())?);
+    }
+    for (len, body) in [(8u64, "aX123456"), (3, "aX1"), (5, "aX1\0\0"), (0, "")] {
+        assert!(rt; resize(alloc, &mut bodies, len)?);
+        assert!(rt; has_body(alloc, &mut bodies, body.as_bytes())?);
+    }
+    Ok(())
+}
+
+#[test]
+fn tears_what_fails(rt: HostRuntime) -> Result<(), Fail> {
+    let alloc = rt.alloc();
+    let mut bodies = store(alloc, &[2, 3, 4, 6], &[4])?;
+    assert!(rt; put(alloc, &mut bodies, 0, b"abcd")?);
+    assert!(rt; !put(alloc, &mut bodies, 1, b"EFG")?);
+    assert!(rt; has_body(alloc, &mut bodies, b"a??d")?);
+    assert!(rt; !put(alloc, &mut bodies, 5, b"hijk")?);
+    assert!(rt; has_body(alloc, &mut bodies, b"a??d\0??")?);
+    assert!(rt; !resize(alloc, &mut bodies, 2)?);
+    assert!(rt; has_body(alloc, &mut bodies, b"a??d\0??")?);
+    assert!(rt; put_attribute(alloc, &mut bodies, b"xy")?);
+    assert!(rt; has_attribute(alloc, &mut bodies, Some(b"xy"))?);
+    assert!(rt; !put_attribute(alloc, &mut bodies, b"z")?);
+    assert!(rt; has_attribute(alloc, &mut bodies, None)?);
+    assert!(rt; put_attribute(alloc, &mut bodies, b"z")?);
+    assert!(rt; has_attribute(alloc, &mut bodies, Some(b"z"))?);
+    assert!(rt; !has_body(alloc, &mut bodies, b"a??d\0??")?);
+    assert!(rt; has_body(alloc, &mut bodies, b"a??d\0??")?);
+    assert_eq!(rt; (bodies.faults(), bodies.calls()), (5, 27));
+    Ok(())
+}
+
+#[test]
+fn has_nothing_of_other_nodes(rt: HostRuntime) -> Result<(), Fail> {
+    let alloc = rt.alloc();
+    let mut bodies = store(alloc, &[], &[])?;
+    assert!(rt; put(alloc, &mut bodies, 0, b"abc")?);
+    for node in [1u32, 8, 10, 17] {
+        assert!(rt; matches!(bodies.len(node), Ok(0)));
+    }
+    assert!(rt; matches!(bodies.reserve(alloc, 8, 0, 0), Err(LowerError::Memory)));
+    assert_eq!(rt; bodies.faults(), 0);
+    Ok(())
+}
+
+/// Which of two changing calls and two reading ones on a store fail.
+fn failing(bodies: &mut MemBodies) -> [bool; 4] {
+    [
+        bodies.set_len(NODE, 0).is_err(),
+        bodies.set_len(NODE, 0).is_err(),
+        bodies.read_at(NODE, 0, &mut []).is_err(),
+        bodies.read_at(NODE, 0, &mut []).is_err(),
+    ]
+}
+
+#[test]
+fn hands_each_store_its_numbers(rt: HostRuntime) -> Result<(), Fail> {
+    let alloc = rt.alloc();
+    let mut maker = maker(alloc, &[], &[])?;
+    let Ok(mut parts) = maker.split(alloc, read_image(alloc, FILES)?) else {
+        return Err("split".into());
+    };
+    assert_eq!(rt; failing(&mut parts.bodies[0]), [false; 4]);
+    assert_eq!(rt; failing(&mut parts.bodies[1]), [true, false, false, true]);
+    assert_eq!(rt; failing(&mut parts.bodies[2]), [false, true, false, false]);
+    maker.take_back(parts);
+    assert_eq!(rt; (maker.tally(1), maker.tally(2), maker.tally(3)), (0, 2, 1));
+    let Ok(mut parts) = maker.split(alloc, read_image(alloc, FILES)?) else {
+        return Err("second split".into());
+    };
+    assert_eq!(rt; failing(&mut parts.bodies[1]), [false; 4]);
     Ok(())
 }

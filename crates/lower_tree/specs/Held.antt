@@ -3,18 +3,14 @@ use Rattle.std.specs.Prelude.{ℕ, ◌≡◌, ◌%◌, Bool, true, List, Option,
 use Rattle.lower_model.specs.declared.node.LowerNode.{LowerNode}
 use Rattle.lower_model.specs.LowerTree.{IsLowerTree}
 use Rattle.names_model.specs.Store.{Store, store_of}
-use Rattle.names_model.specs.LowerPaths.{LowerFile, LowerPaths, no_octets, paths_of, files_of}
+use Rattle.names_model.specs.LowerPaths.{LowerPaths, paths_of, files_of}
+use Rattle.body_model.specs.LowerFile.{LowerFile, no_octets}
+use Rattle.body_model.specs.Bodies.{HeldBodies}
 
 -- A store of names: whether it tells what it holds, the entries of its directories, and how many of its calls failed.
 pub record HeldNames : Type 0 where
   pub told : Bool
   pub entries : Store
-  pub faults : ℕ
-
--- A store of bodies: whether it tells what it holds, the file of each node, and how many of its calls failed.
-pub record HeldBodies : Type 0 where
-  pub told : Bool
-  pub files : ℕ → LowerFile
   pub faults : ℕ
 
 -- The parts of a mount: its names, and its stores of bodies, of which the file of a node stands in that with the remainder of its number by 8.

@@ -3,7 +3,8 @@ use Rattle.std.specs.Prelude.{ℕ, zero, suc, ◌≡◌, ◌+◌, ◌-◌, ◌^�
 use Rattle.lower_model.specs.declared.kind.Kind.TheVariants as kinds
 use Rattle.lower_model.specs.LowerTree.{HoldsOctets}
 use Rattle.names_model.specs.StoreCalls.{IsStoreTree}
-use Rattle.lower_tree.specs.Held.{HeldNames, HeldBodies, HeldParts, file_at, stores}
+use Rattle.body_model.specs.Bodies.{HeldBodies}
+use Rattle.lower_tree.specs.Held.{HeldNames, HeldParts, file_at, stores}
 
 -- what parts hold, by what each of them does
 abbrev pub held_parts : {N B : Type 0} → (N → HeldNames) → (B → HeldBodies) → N → List B → HeldParts

@@ -3,11 +3,15 @@
 
 mod bodies;
 mod error;
+mod format;
 mod maker;
 mod names;
+mod steps;
 
 pub use bodies::LowerBodies;
-pub use error::LowerError;
+pub use body_model::{Content, Opened};
+pub use error::{Failed, LowerError};
+pub use format::{BodyFormat, Extent, OpenFault};
 pub use lower_model::{
     Items, Kind, LONGEST_ATTRIBUTE, LowerNode, LowerTree, MOST_ENTRIES, OpenDir, comes_before,
     is_name,
@@ -15,4 +19,5 @@ pub use lower_model::{
 pub use maker::{LowerMaker, Parts};
 pub use names::LowerNames;
 pub use names_model::{CodingFault, Linked, LowerName, NameFault};
-pub use packet_model::{BadCause, MAX_SIZE, MetaPlace};
+pub use packet_model::{BadCause, EXTENT_SIZE, MAX_SIZE, MetaPlace};
+pub use steps::Steps;

@@ -23,6 +23,8 @@ fn maker(rt: &HostRuntime) -> MemMaker {
     MemMaker::new(MemFails {
         maker: Vec::new(rt.alloc()),
         names: Vec::new(rt.alloc()),
+        changes: Vec::new(rt.alloc()),
+        reads: Vec::new(rt.alloc()),
     })
 }
 

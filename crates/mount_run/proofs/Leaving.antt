@@ -9,12 +9,14 @@ use Rattle.tree_model.specs.IsTree.{IsTree, IsNode}
 use Rattle.tree_model.specs.PlainTree.{PlainTree}
 use Rattle.names_model.specs.Store.{Store, IsStoreOf, store_of}
 use Rattle.names_model.specs.NameForm.{NameForm}
-use Rattle.names_model.specs.LowerPaths.{LowerFile, LowerPaths, found, files_of, paths_of, tree_paths}
+use Rattle.names_model.specs.LowerPaths.{LowerPaths, found, files_of, paths_of, tree_paths}
+use Rattle.body_model.specs.LowerFile.{LowerFile}
 use Rattle.names_model.specs.ShownBy.{shown_of}
 use Rattle.names_model.specs.CarriedBy.{Carries, IsUntouched, Leaves}
 use Rattle.namespace_model.specs.Carried.{IsForm, Keeps, Stays, AreNamed, AreBelow}
 use Rattle.opening_model.proofs.ByPath.{carries_tree, untouched, are_names}
-use Rattle.lower_tree.specs.Held.{HeldNames, HeldBodies, file_at, paths_held}
+use Rattle.lower_tree.specs.Held.{HeldNames, file_at, paths_held}
+use Rattle.body_model.specs.Bodies.{HeldBodies}
 use Rattle.mount_run.specs.Mounted.{TellsImage}
 
 module _ (form : NameForm) (image : List LowerNode) (first now : HeldNames) (bodies : List HeldBodies) (start : PlainTree) (kept : List (List ℕ)) (end : PlainTree) (names : List (List ℕ))

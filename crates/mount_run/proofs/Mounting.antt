@@ -6,7 +6,8 @@ use Rattle.tree_model.specs.PlainTree.{PlainTree}
 use Rattle.names_model.specs.Store.{Store}
 use Rattle.names_model.specs.NameForm.{NameForm}
 use Rattle.opening_model.specs.Openings.{ShowsTree}
-use Rattle.lower_tree.specs.Held.{HeldNames, HeldBodies, HeldParts, TellAll, HoldTree}
+use Rattle.lower_tree.specs.Held.{HeldNames, HeldParts, TellAll, HoldTree}
+use Rattle.body_model.specs.Bodies.{HeldBodies}
 use Rattle.lower_tree.specs.Making.{AreFresh, AddsFaults, faults_of, sum_of_counts}
 use Rattle.served_model.specs.Served.{Maker, CountsFaults}
 use Rattle.mount_run.specs.Mounted.{IsMounted, TellsImage}

@@ -12,7 +12,8 @@ use Rattle.session_model.specs.ScriptCalls.{AreScriptCalls}
 use Rattle.session_model.specs.Session.{fresh}
 use Rattle.session_model.proofs.ScriptCalls.{one_script_calls}
 use Rattle.session_run.specs.Made.{HasRun, on_tree}
-use Rattle.lower_tree.specs.Held.{HeldNames, HeldBodies, TellAll}
+use Rattle.lower_tree.specs.Held.{HeldNames, TellAll}
+use Rattle.body_model.specs.Bodies.{HeldBodies}
 use Rattle.lower_tree.specs.Making.{faults_of, sum_of_counts}
 use Rattle.job_model.specs.declared.job.Job.{Job}
 use Rattle.mount_model.specs.MountForm.{form_of_job}

@@ -4,16 +4,9 @@ use Rattle.std.specs.Option.{option_map, option_and_then}
 use Rattle.lower_model.specs.declared.kind.Kind.{Kind}
 use Rattle.lower_model.specs.declared.kind.Kind.TheVariants as kinds
 use Rattle.lower_model.specs.declared.node.LowerNode.{LowerNode}
+use Rattle.body_model.specs.LowerFile.{LowerFile, no_octets}
 use Rattle.names_model.specs.declared.entry.Linked.{Linked}
 use Rattle.names_model.specs.Store.{Store, linked_at, store_of}
-
--- what the lower file of a node holds
-pub record LowerFile : Type 0 where
-  pub attribute : Option (List ℕ)
-  pub body : List ℕ
-
-abbrev pub no_octets : LowerFile
-no_octets = record { attribute = None; body = [] }
 
 -- a directory, or a file with its octets
 pub data LowerThing : Type 0 where

@@ -4,7 +4,7 @@ use crate::Names;
 use lower_model::{Items, Kind};
 use lower_tree::{LowerError, LowerName, LowerNames};
 use name_tag70::PlainNames;
-use plain_tree::{Name, Path, TreeCall, TreeRefusal, TreeReply};
+use plain_tree::{Name, Path, Renaming, TreeCall, TreeRefusal, TreeReply};
 use std::alloc::Global;
 use std::process::Abort;
 use std::test::*;
@@ -102,7 +102,7 @@ fn makes_moves_and_removes(rt: HostRuntime) -> Result<(), Fail> {
         Link::new(alloc)?,
         0,
         2,
-        TreeCall::Rename(path(alloc, b"/a/f")?, path(alloc, b"/g")?),
+        TreeCall::Rename(Renaming::between(path(alloc, b"/a/f")?, &path(alloc, b"/g")?)?),
     );
     assert!(rt; matches!(moved, TreeReply::Done));
     let gone = names.step(

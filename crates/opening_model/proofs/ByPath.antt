@@ -10,7 +10,8 @@ use Rattle.names_model.specs.declared.entry.Linked.{Linked}
 use Rattle.names_model.specs.Store.{Entries, Store, linked_at, store_of}
 use Rattle.names_model.specs.StoreCalls.{IsKind, IsStoreTree}
 use Rattle.names_model.specs.NameForm.{NameForm}
-use Rattle.names_model.specs.LowerPaths.{LowerFile, kind_of_thing, thing_of, thing_at, found, paths_of, paths_below, entry_to, files_of, root}
+use Rattle.names_model.specs.LowerPaths.{kind_of_thing, thing_of, thing_at, found, paths_of, paths_below, entry_to, files_of, root}
+use Rattle.body_model.specs.LowerFile.{LowerFile}
 use Rattle.names_model.specs.ShownBy.{shown_of}
 use Rattle.names_model.specs.CarriedBy.{Among, Carries, CarriesDirectory, IsUntouched, AreNames, lower_path, name_in}
 use Rattle.tree_model.specs.declared.place.ForeignEntry.{ForeignEntry}

@@ -145,7 +145,7 @@ can_land : (t : PlainTree) (old : List (List ℕ)) (was : List ℕ) (node : ℕ)
 can_land t old was node parents name to target c tree walks is_last reaches dir there fits f b g h =
     elim (cases_Bool (is_same target node)) [
       | inl s ↦ absurd (no_answer replies.Done c (rw s at h))
-      | inr s ↦ (let placed = then_ok (fits_place t.places node parents target) _ (prepared.Change c) (rw s at h) in
+      | inr s ↦ (let placed = then_ok (fits_place t.places node (comes_by t.places node 0 parents) target) _ (prepared.Change c) (rw s at h) in
           let from = then_ok (walk t.places 0 (front old)) _ (prepared.Change c) placed.2 in
           let outside = then_ok (unless (is_dir (slice_get t.places node) && comes_by t.places node 0 parents) _) _ placed.0 placed.1 in
           let bare : is_bare (place_there t.places target) ≡ true = not-false _ (unless_ok (not (is_bare (place_there t.places target))) _ placed.0 outside.2) in
@@ -215,7 +215,7 @@ can t (calls.Create p) c tree h = can_make t _ (front p) (last p) c h
 can t (calls.Mkdir p) c tree h = can_make t _ (front p) (last p) c h
 can t (calls.Rmdir p) c tree h = can_rmdir t (front p) (last p) c h
 can t (calls.Unlink p) c tree h = can_unlink t (front p) (last p) c h
-can t (calls.Rename p q) c tree h = can_rename t p q c tree h
+can t (calls.Rename paths) c tree h = can_rename t paths.old paths.new c tree h
 can t (calls.List p) c tree h = absurd (no_list t.places p c h)
 can t (calls.Stat p) c tree h = absurd (no_stat t.places p c h)
 

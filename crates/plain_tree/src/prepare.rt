@@ -1,18 +1,18 @@
-ghost use Rattle.std.specs.Prelude.{◌≡◌, ◌<◌, ◌-◌, ◌^◌, min, sum_by, Some, None, Ok, map, length, slice_get, IfOk, OnOk, IsTrue};
+ghost use Rattle.std.specs.Prelude.{◌≡◌, [], ◌<◌, ◌-◌, ◌^◌, min, sum_by, Some, None, Ok, map, length, slice_get, IfOk, OnOk, IsTrue};
 ghost use Rattle.lower_model.specs.Name.{is_name};
 ghost use Rattle.tree_model.specs.declared.change.Change.TheVariants.{Move};
 ghost use Rattle.tree_model.specs.declared.change.Prepared.TheVariants as prepared;
 ghost use Rattle.tree_model.specs.Walk.{front, last};
-ghost use Rattle.tree_model.specs.PlainTree.{shown_in, shown_entry, make, goes, changes, rmdir, unlink, rename, names_in, resolve, stat, tested, comes_to};
+ghost use Rattle.tree_model.specs.PlainTree.{shown_in, shown_entry, make, goes, changes, rmdir, unlink, goes_to, rename, names_in, resolve, stat, tested, comes_to};
 ghost use Rattle.plain_tree.specs.Prepared.{TestsFor, PreparesFor, HasRoom, IfChange};
 
 use crate::room::{empty_at, file_at, fits_file, fits_name, fits_place, room};
-use crate::walk::{directory, entry, kind, target_in, walked};
+use crate::walk::{directory, entry, kind, target_in, walked, walked_by, walked_to};
 use lower_model::Kind;
 use std::alloc::{AllocError, Global};
 use tree_model::{
     Change, DirListing, Directory, EntryName, Making, Moving, Name, Parts, Path, Place, Prepared,
-    Removal, Spare, TreeCall, TreeRefusal, TreeReply,
+    Removal, Renaming, Spare, TreeCall, TreeRefusal, TreeReply,
 };
 
 /// How many octets the names of a directory have in all, as far as that can be counted.
@@ -135,44 +135,43 @@ fn moves(
     })))
 }
 
-fn parents_of(path: &Path) -> Parts<'_>
-    ensures { result ≡ front path.now }
+/// Why the root doesn't get this name in the directory that these names lead to.
+fn root_fits(places: &[Place], parents: Parts<'_>, name: &[u8]) -> Result<Prepared, TreeRefusal>
+    ensures { result ≡ goes_to places.now [] None 0 parents.entry (Some name.now) }
 {
-    match path.parts().split_last() {
-        Some((_, parents)) => parents,
-        None => path.parts(),
-    }
+    let to = walked(places, parents)?;
+    let target = target_in(places, to, name)?;
+    fits_file(places, 0, target)?;
+    Err(TreeRefusal::IsRoot)
 }
 
 fn rename(
     alloc: Global,
     limit: usize,
     places: &[Place],
-    old: &Path,
-    new: &Path,
+    paths: &Renaming,
 ) -> Result<Prepared, TreeRefusal>
-    ensures { TestsFor result (rename (record { limit = limit; places = places.now }) old.now new.now) }
+    ensures { TestsFor result (rename (record { limit = limit; places = places.now }) paths.now.old paths.now.new) }
 {
-    let Some((name, parents)) = new.parts().split_last() else {
-        let _node = walked(places, old.parts())?;
+    let Some((name, parents)) = paths.new().split_last() else {
+        let _node = walked(places, paths.old())?;
         return Err(TreeRefusal::IsRoot);
     };
     if limit < name.len() {
         return Err(TreeRefusal::NameLong);
     }
-    let node = walked(places, old.parts())?;
-    let to = walked(places, parents)?;
+    let Some((was, above)) = paths.old().split_last() else {
+        return root_fits(places, parents, name);
+    };
+    let (from, node) = walked_to(places, above, was)?;
+    let (to, below) = walked_by(places, node, parents)?;
     let target = target_in(places, to, name)?;
     fits_file(places, node, target)?;
-    let Some((was, above)) = old.parts().split_last() else {
-        return Err(TreeRefusal::IsRoot);
-    };
     fits_name(places, to, name, node, target)?;
     if target == Some(node) {
         return answer(TreeReply::Done);
     }
-    fits_place(places, node, parents_of(new), target)?;
-    let from = walked(places, above)?;
+    fits_place(places, node, below, target)?;
     moves(alloc, from, was, node, to, name, target)
 }
 
@@ -215,7 +214,7 @@ fn tested(
         TreeCall::Mkdir(path) => make(alloc, limit, places, Kind::Dir, path),
         TreeCall::Rmdir(path) => rmdir(alloc, places, path),
         TreeCall::Unlink(path) => unlink(alloc, places, path),
-        TreeCall::Rename(old, new) => rename(alloc, limit, places, old, new),
+        TreeCall::Rename(paths) => rename(alloc, limit, places, paths),
         TreeCall::List(path) => list(alloc, places, path),
         TreeCall::Stat(path) => stat(places, path),
     }

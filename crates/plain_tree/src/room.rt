@@ -3,7 +3,7 @@ ghost use Rattle.std.specs.List.{list_any};
 ghost use Rattle.std.specs.Option.{option_copied};
 ghost use Rattle.tree_model.specs.PlainTree.{is_dir, is_file, file_of, empty_at, has_nothing, is_bare, place_there, is_blocked_at, is_taken, blocks_name, fits_file, fits_name, fits_place, may_get, room_for};
 
-use crate::walk::{comes_by, directory, walked};
+use crate::walk::{directory, walked};
 use tree_model::{Directory, ForeignEntry, MOST_NODES, Parts, Place, TreeRefusal};
 
 fn is_blocked(foreign: &[ForeignEntry], name: &[u8]) -> bool
@@ -119,16 +119,16 @@ fn is_bare(place: Option<&Place>) -> bool
     }
 }
 
-/// A directory doesn't go below itself, and goes onto empty ones alone.
+/// A directory doesn't go to a place below itself, and goes onto empty ones alone.
 pub fn fits_place(
     places: &[Place],
     node: u32,
-    parents: Parts<'_>,
+    below: bool,
     target: Option<u32>,
 ) -> Result<(), TreeRefusal>
-    ensures { result ≡ fits_place places.now node parents.entry target }
+    ensures { result ≡ fits_place places.now node below target }
 {
-    if is_dir(places.get(node as usize)) && comes_by(places, node, parents) {
+    if is_dir(places.get(node as usize)) && below {
         Err(TreeRefusal::Inside)
     } else if is_bare(place_there(places, target)) {
         Ok(())

@@ -1,4 +1,4 @@
-use crate::{Name, Path, Prepared, Spare, Tree, TreeCall, TreeRefusal, TreeReply};
+use crate::{Name, Path, Prepared, Renaming, Spare, Tree, TreeCall, TreeRefusal, TreeReply};
 use lower_model::{Items, Kind};
 use std::alloc::Global;
 use std::process::Abort;
@@ -31,7 +31,7 @@ fn call(alloc: Global, text: &[u8]) -> Result<TreeCall, Fail> {
     let first = path(alloc, words.next().ok_or("no path")?)?;
     if word == b"rename".as_slice() {
         let second = path(alloc, words.next().ok_or("no second path")?)?;
-        return Ok(TreeCall::Rename(first, second));
+        return Ok(TreeCall::Rename(Renaming::between(first, &second)?));
     }
     match word {
         b"resolve" => Ok(TreeCall::Resolve(first)),

@@ -1,4 +1,4 @@
-ghost use Rattle.std.specs.Prelude.{◌≡◌, Ok, Err, IfOk, IfErr, slice_get};
+ghost use Rattle.std.specs.Prelude.{◌≡◌, [], ◌∷◌, ◌++◌, Ok, Err, IfOk, IfErr, slice_get};
 ghost use Rattle.tree_model.specs.PlainTree.{kind_or_file};
 ghost use Rattle.tree_model.specs.Walk.{dir_of, target_in, walk, entry_of, kind_of, comes_by};
 
@@ -55,21 +55,28 @@ pub fn kind(places: &[Place], node: u32) -> Kind
     }
 }
 
-/// Whether these names lead by a node from the root on, their end included.
-pub fn comes_by(places: &[Place], node: u32, parts: Parts<'_>) -> bool
-    ensures { result ≡ comes_by places.now node 0 parts.entry }
+/// The directory that these names lead to from the root, and the node that a further name has in it.
+pub fn walked_to(places: &[Place], above: Parts<'_>, name: &[u8]) -> Result<(u32, u32), TreeRefusal>
+    ensures ok { IfOk result (λ end. (walk places.now 0 above.entry ≡ Ok end.0) × (walk places.now 0 (above.entry ++ name.now ∷ []) ≡ Ok end.1)) }
+    ensures err { IfErr result (λ refusal. walk places.now 0 (above.entry ++ name.now ∷ []) ≡ Err refusal) }
+{
+    let dir = walked(places, above)?;
+    let node = entry(places, dir, name)?;
+    Ok((dir, node))
+}
+
+/// The node that these names lead to from the root, and whether they lead by a node, their end included.
+pub fn walked_by(places: &[Place], node: u32, parts: Parts<'_>) -> Result<(u32, bool), TreeRefusal>
+    ensures ok { IfOk result (λ end. (walk places.now 0 parts.entry ≡ Ok end.0) × (comes_by places.now node 0 parts.entry ≡ end.1)) }
+    ensures err { IfErr result (λ refusal. walk places.now 0 parts.entry ≡ Err refusal) }
 {
     let mut at = 0u32;
+    let mut by = false;
     let mut rest = parts;
     while let Some((name, behind)) = rest.split_first() {
-        if at == node {
-            return true;
-        }
-        match entry(places, at, name) {
-            Ok(next) => at = next,
-            Err(_) => return false,
-        }
+        by = by || at == node;
+        at = entry(places, at, name)?;
         rest = behind;
     }
-    at == node
+    Ok((at, by || at == node))
 }

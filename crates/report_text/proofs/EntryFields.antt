@@ -28,7 +28,7 @@ around_call field next others (calls.Create p) = refl
 around_call field next others (calls.Mkdir p) = refl
 around_call field next others (calls.Rmdir p) = refl
 around_call field next others (calls.Unlink p) = refl
-around_call field next others (calls.Rename p q) = simp append_assoc
+around_call field next others (calls.Rename paths) = simp append_assoc
 around_call field next others (calls.List p) = refl
 around_call field next others (calls.Stat p) = refl
 

@@ -7,7 +7,7 @@ use crate::reply::put_tree_reply;
 use line_writer::{put_line_end, put_number, put_path, put_space, put_word};
 use session_model::TreeEntry;
 use std::alloc::AllocError;
-use tree_model::{Path, TreeCall};
+use tree_model::{Parts, TreeCall};
 
 // A number and the space behind it.
 fn put_count(out: &mut Vec<u8>, n: u64) -> Result<(), AllocError>
@@ -18,8 +18,8 @@ fn put_count(out: &mut Vec<u8>, n: u64) -> Result<(), AllocError>
 }
 
 // A word, which has its space, and the path behind it.
-fn put_word_and_path(out: &mut Vec<u8>, word: &str, to: &Path) -> Result<(), AllocError>
-    ensures { OnOk result (out.new.items ≡ out.old.items ++ word.now ++ path to.now) }
+fn put_word_and_path(out: &mut Vec<u8>, word: &str, to: Parts<'_>) -> Result<(), AllocError>
+    ensures { OnOk result (out.new.items ≡ out.old.items ++ word.now ++ path to.entry) }
 {
     put_word(out, word)?;
     put_path(out, to)
@@ -30,18 +30,18 @@ fn put_tree_call(out: &mut Vec<u8>, call: &TreeCall) -> Result<(), AllocError>
     ensures { OnOk result (out.new.items ≡ out.old.items ++ join_with_byte 32 (tree_call call.now)) }
 {
     match call {
-        TreeCall::Resolve(path) => put_word_and_path(out, "resolve ", path),
-        TreeCall::Create(path) => put_word_and_path(out, "create ", path),
-        TreeCall::Mkdir(path) => put_word_and_path(out, "mkdir ", path),
-        TreeCall::Rmdir(path) => put_word_and_path(out, "rmdir ", path),
-        TreeCall::Unlink(path) => put_word_and_path(out, "unlink ", path),
-        TreeCall::Rename(old, new) => {
-            put_word_and_path(out, "rename ", old)?;
+        TreeCall::Resolve(path) => put_word_and_path(out, "resolve ", path.parts()),
+        TreeCall::Create(path) => put_word_and_path(out, "create ", path.parts()),
+        TreeCall::Mkdir(path) => put_word_and_path(out, "mkdir ", path.parts()),
+        TreeCall::Rmdir(path) => put_word_and_path(out, "rmdir ", path.parts()),
+        TreeCall::Unlink(path) => put_word_and_path(out, "unlink ", path.parts()),
+        TreeCall::Rename(paths) => {
+            put_word_and_path(out, "rename ", paths.old())?;
             put_space(out)?;
-            put_path(out, new)
+            put_path(out, paths.new())
         }
-        TreeCall::List(path) => put_word_and_path(out, "list ", path),
-        TreeCall::Stat(path) => put_word_and_path(out, "stat ", path),
+        TreeCall::List(path) => put_word_and_path(out, "list ", path.parts()),
+        TreeCall::Stat(path) => put_word_and_path(out, "stat ", path.parts()),
     }
 }
 

@@ -6,7 +6,7 @@ ghost use Rattle.line_writer.specs.Fields.{spaced};
 ghost use Rattle.show_model.specs.ShowText.{content_fields, item_line, kind_letter as letter_of_kind, path_to, show_end, show_head, show_text, what_fields};
 
 use crate::fields::{put_cause, put_count, put_data, put_number_field, put_word_field};
-use content_model::Content;
+use body_model::Content;
 use line_writer::{put_entry_path, put_line_end, put_path, put_space, put_word};
 use show_model::{ShowItem, ShowWhat};
 use std::alloc::{AllocError, Global};
@@ -56,8 +56,8 @@ fn put_path_to(out: &mut Vec<u8>, item: &ShowItem) -> Result<(), AllocError>
     ensures err { OnErr result (BeginsWith out.new.items out.old.items) }
 {
     match &item.what {
-        ShowWhat::Foreign(lower) => put_entry_path(out, &item.path, lower.as_slice()),
-        ShowWhat::Dir | ShowWhat::File(_) => put_path(out, &item.path),
+        ShowWhat::Foreign(lower) => put_entry_path(out, item.path.parts(), lower.as_slice()),
+        ShowWhat::Dir | ShowWhat::File(_) => put_path(out, item.path.parts()),
     }
 }
 

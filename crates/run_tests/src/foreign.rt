@@ -10,7 +10,7 @@ use lower_tree::{LowerMaker, LowerNames};
 use name_form::{NameError, NameForm};
 use name_tag70::PlainNames;
 use namespace::{Names, NamesFault};
-use plain_tree::{Name, Path, TreeCall, TreeRefusal, TreeReply};
+use plain_tree::{Name, Path, Renaming, TreeCall, TreeRefusal, TreeReply};
 use std::alloc::{AllocError, Global};
 use std::test::Fail;
 use turn_lock::Link;
@@ -79,6 +79,8 @@ fn opening(
     let mut maker = MemMaker::new(MemFails {
         maker: Vec::new(alloc),
         names: Vec::from_slice(alloc, fails)?,
+        changes: Vec::new(alloc),
+        reads: Vec::new(alloc),
     });
     let Ok(parts) = maker.split(alloc, read_image(alloc, LOWER)?) else {
         return Err("split".into());
@@ -112,7 +114,8 @@ fn path(alloc: Global, text: &str) -> Result<Path, Fail> {
 fn call(alloc: Global, line: &str) -> Result<TreeCall, Fail> {
     let (word, paths) = line.split_once(' ').ok_or("no path")?;
     if let Some((old, new)) = paths.split_once(' ') {
-        return Ok(TreeCall::Rename(path(alloc, old)?, path(alloc, new)?));
+        let renaming = Renaming::between(path(alloc, old)?, &path(alloc, new)?)?;
+        return Ok(TreeCall::Rename(renaming));
     }
     let path = path(alloc, paths)?;
     match word {

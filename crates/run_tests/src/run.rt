@@ -46,6 +46,8 @@ pub fn maker(alloc: Global, failing: Failing) -> Result<MemMaker, AllocError> {
     Ok(MemMaker::new(MemFails {
         maker: failing.maker.to_vec(alloc)?,
         names: failing.names.to_vec(alloc)?,
+        changes: Vec::new(alloc),
+        reads: Vec::new(alloc),
     }))
 }
 

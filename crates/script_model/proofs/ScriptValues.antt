@@ -9,7 +9,7 @@ use Rattle.script_model.specs.ScriptText.{script_text}
 
 abbrev on_tree : List Op
 on_tree =
-    ops.Mkdir (codes "a" ∷ []) ∷ ops.Rename (codes "a" ∷ []) (codes "b" ∷ codes "c d" ∷ []) ∷ ops.Unlink (codes "f" ∷ [])
+    ops.Mkdir (codes "a" ∷ []) ∷ ops.Rename (record { old = codes "a" ∷ []; new = codes "b" ∷ codes "c d" ∷ [] }) ∷ ops.Unlink (codes "f" ∷ [])
     ∷ ops.Rmdir (codes "a" ∷ []) ∷ ops.Stat [] ∷ ops.List [] ∷ []
 
 on_tree_lines : script_text on_tree ≡ codes "script 6\nmkdir /a\nrename /a /b/c%20d\nunlink /f\nrmdir /a\nstat /\nlist /\n"

@@ -26,7 +26,7 @@ abbrev pub IsOp : Op → Type 0
 IsOp (ops.Mkdir path) = IsPath path
 IsOp (ops.Rmdir path) = IsPath path
 IsOp (ops.Unlink path) = IsPath path
-IsOp (ops.Rename old new) = IsPath old × IsPath new
+IsOp (ops.Rename paths) = IsPath paths.old × IsPath paths.new
 IsOp (ops.List path) = IsPath path
 IsOp (ops.Stat path) = IsPath path
 IsOp (ops.Open slot path) = IsSlot slot × IsPath path
@@ -47,7 +47,7 @@ abbrev pub IsTreeOp : Op → Type 0
 IsTreeOp (ops.Mkdir path) = Unit {0}
 IsTreeOp (ops.Rmdir path) = Unit {0}
 IsTreeOp (ops.Unlink path) = Unit {0}
-IsTreeOp (ops.Rename old new) = Unit {0}
+IsTreeOp (ops.Rename paths) = Unit {0}
 IsTreeOp (ops.List path) = Unit {0}
 IsTreeOp (ops.Stat path) = Unit {0}
 IsTreeOp (ops.Open slot path) = ⊥

@@ -10,7 +10,7 @@ abbrev pub op_fields : Op → List (List ℕ)
 op_fields (ops.Mkdir p) = codes "mkdir" ∷ path p ∷ []
 op_fields (ops.Rmdir p) = codes "rmdir" ∷ path p ∷ []
 op_fields (ops.Unlink p) = codes "unlink" ∷ path p ∷ []
-op_fields (ops.Rename old new) = codes "rename" ∷ path old ∷ path new ∷ []
+op_fields (ops.Rename paths) = codes "rename" ∷ path paths.old ∷ path paths.new ∷ []
 op_fields (ops.List p) = codes "list" ∷ path p ∷ []
 op_fields (ops.Stat p) = codes "stat" ∷ path p ∷ []
 op_fields (ops.Open slot p) = codes "open" ∷ number slot ∷ path p ∷ []

@@ -1,5 +1,5 @@
 use lower_model::Items;
-use tree_model::Path;
+use tree_model::{Path, Renaming};
 
 /// An operation of a script, with its fields in the order of its line.
 #[derive(Debug, Drop)]
@@ -10,8 +10,8 @@ pub enum Op {
     Rmdir(Path),
     /// Remove a file.
     Unlink(Path),
-    /// Give an entry another path: the old one, and the new one.
-    Rename(Path, Path),
+    /// Give an entry another path.
+    Rename(Renaming),
     /// Tell a directory's entries.
     List(Path),
     /// Tell the kind and the node of what a path leads to.

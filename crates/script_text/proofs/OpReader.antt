@@ -20,7 +20,7 @@ use Rattle.line_reader.proofs.Readers.{IsReader, bind_some}
 use Rattle.line_reader.proofs.Words.{is_word, is_other, both, weaker}
 use Rattle.line_reader.proofs.NameReader.{name_words, chosen}
 use Rattle.line_reader.proofs.PathReader.{AreWithout, split_join, path_reader}
-use Rattle.script_text.specs.OpReading.{IsReadOp, IsOpText, fields_in, fields_behind, path_alone, path_pair, OpWord, path_word, pair_word, op_words, op_behind, op_of, op_in}
+use Rattle.script_text.specs.OpReading.{IsReadOp, IsOpText, fields_in, fields_behind, path_alone, path_pair, OpWord, path_word, pair_word, renames, op_words, op_behind, op_of, op_in}
 
 -- ---- paths without an octet
 
@@ -111,7 +111,7 @@ each_word = (
     (
       path_row (codes "unlink") ops.Unlink (λ p. refl) (λ p h. record { lawful = h; on_tree = tt }),
       (
-        pair_row (codes "rename") ops.Rename (λ p q. refl) (λ p q h k. record { lawful = (h, k); on_tree = tt }),
+        pair_row (codes "rename") renames (λ p q. refl) (λ p q h k. record { lawful = (h, k); on_tree = tt }),
         (
           path_row (codes "list") ops.List (λ p. refl) (λ p h. record { lawful = h; on_tree = tt }),
           (path_row (codes "stat") ops.Stat (λ p. refl) (λ p h. record { lawful = h; on_tree = tt }), tt),
@@ -164,7 +164,7 @@ op_reader = record { found = found; again = λ op h. again op h.lawful h.on_tree
     again (ops.Mkdir p) h t = one_again (codes "mkdir") p (ops.Mkdir p) refl h (ap (option_map ops.Mkdir) (path_reader.again p h))
     again (ops.Rmdir p) h t = one_again (codes "rmdir") p (ops.Rmdir p) refl h (ap (option_map ops.Rmdir) (path_reader.again p h))
     again (ops.Unlink p) h t = one_again (codes "unlink") p (ops.Unlink p) refl h (ap (option_map ops.Unlink) (path_reader.again p h))
-    again (ops.Rename p q) h t = two_again (codes "rename") p q (ops.Rename p q) refl h.0 h.1 (rw (path_reader.again p h.0, path_reader.again q h.1) refl)
+    again (ops.Rename paths) h t = two_again (codes "rename") paths.old paths.new (ops.Rename paths) refl h.0 h.1 (rw (path_reader.again paths.old h.0, path_reader.again paths.new h.1) refl)
     again (ops.List p) h t = one_again (codes "list") p (ops.List p) refl h (ap (option_map ops.List) (path_reader.again p h))
     again (ops.Stat p) h t = one_again (codes "stat") p (ops.Stat p) refl h (ap (option_map ops.Stat) (path_reader.again p h))
     again (ops.Open slot p) h t = absurd t
@@ -184,7 +184,7 @@ op_no_end op h = by op h.lawful h.on_tree
     by (ops.Mkdir p) h t = without_end p h
     by (ops.Rmdir p) h t = without_end p h
     by (ops.Unlink p) h t = without_end p h
-    by (ops.Rename p q) h t = both (is_other 10) (path p) (32 ∷ path q) (without_end p h.0) (without_end q h.1)
+    by (ops.Rename paths) h t = both (is_other 10) (path paths.old) (32 ∷ path paths.new) (without_end paths.old h.0) (without_end paths.new h.1)
     by (ops.List p) h t = without_end p h
     by (ops.Stat p) h t = without_end p h
     by (ops.Open slot p) h t = absurd t

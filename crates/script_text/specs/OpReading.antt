@@ -54,10 +54,14 @@ path_word word make = record { word = word; read = λ fields. option_map make (p
 abbrev pub pair_word : List ℕ → (List (List ℕ) → List (List ℕ) → Op) → OpWord
 pair_word word make = record { word = word; read = λ fields. option_map (λ pair. make pair.0 pair.1) (path_pair fields) }
 
+-- a rename from one path to another
+abbrev pub renames : List (List ℕ) → List (List ℕ) → Op
+renames old new = ops.Rename (record { old = old; new = new })
+
 abbrev pub op_words : List OpWord
 op_words =
     path_word (codes "mkdir") ops.Mkdir ∷ path_word (codes "rmdir") ops.Rmdir ∷ path_word (codes "unlink") ops.Unlink
-    ∷ pair_word (codes "rename") ops.Rename ∷ path_word (codes "list") ops.List ∷ path_word (codes "stat") ops.Stat ∷ []
+    ∷ pair_word (codes "rename") renames ∷ path_word (codes "list") ops.List ∷ path_word (codes "stat") ops.Stat ∷ []
 
 -- fields that are read as those of this word
 abbrev pub op_behind : List OpWord → List ℕ → List (List ℕ) → Option Op

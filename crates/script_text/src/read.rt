@@ -6,6 +6,7 @@ ghost use Rattle.script_text.specs.OpReading.{fields_behind, op_words, op_behind
 use crate::fields::{first_field, read_alone, read_pair};
 use script_model::Op;
 use std::alloc::{AllocError, Global};
+use tree_model::Renaming;
 
 /// Why a line of a script wasn't read.
 #[derive(Clone, Copy, Debug, PartialEq, Eq)]
@@ -30,7 +31,10 @@ fn op_behind(alloc: Global, word: &[u8], fields: Option<&[u8]>) -> Result<Option
         return Ok(read_alone(alloc, fields)?.map(Op::Unlink));
     }
     if word == b"rename".as_slice() {
-        return Ok(read_pair(alloc, fields)?.map(|(old, new)| Op::Rename(old, new)));
+        let Some((old, new)) = read_pair(alloc, fields)? else {
+            return Ok(None);
+        };
+        return Ok(Some(Op::Rename(Renaming::between(old, &new)?)));
     }
     if word == b"list".as_slice() {
         return Ok(read_alone(alloc, fields)?.map(Op::List));

@@ -116,7 +116,7 @@ slot_taken = refl
 -- ---- a turn that a lower fault ended, and one that moved an entry
 
 abbrev moved : TreeEntry
-moved = record { session = 0; op = 3; call = calls.Rename (codes "a" ∷ []) (codes "b" ∷ codes "c" ∷ []); reply = replies.Done; before = 1; after = 1 }
+moved = record { session = 0; op = 3; call = calls.Rename (record { old = codes "a" ∷ []; new = codes "b" ∷ codes "c" ∷ [] }); reply = replies.Done; before = 1; after = 1 }
 
 entry_of_rename : entry_line moved ≡ codes "0 3 1 1 rename /a /b/c = ok\n"
 unfolding digits

@@ -82,7 +82,7 @@ tree_call (calls.Create p) = codes "create" ∷ path p ∷ []
 tree_call (calls.Mkdir p) = codes "mkdir" ∷ path p ∷ []
 tree_call (calls.Rmdir p) = codes "rmdir" ∷ path p ∷ []
 tree_call (calls.Unlink p) = codes "unlink" ∷ path p ∷ []
-tree_call (calls.Rename p q) = codes "rename" ∷ path p ∷ path q ∷ []
+tree_call (calls.Rename paths) = codes "rename" ∷ path paths.old ∷ path paths.new ∷ []
 tree_call (calls.List p) = codes "list" ∷ path p ∷ []
 tree_call (calls.Stat p) = codes "stat" ∷ path p ∷ []
 

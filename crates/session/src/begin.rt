@@ -1,4 +1,4 @@
-ghost use Rattle.std.specs.Prelude.{◌≡◌, ◌+◌, ◌-◌, ◌≤◌, length, drop, IfSome, slice_get};
+ghost use Rattle.std.specs.Prelude.{◌≡◌, ◌+◌, ◌-◌, ◌≤◌, [], ◌∷◌, length, drop, IfSome, MatchOption, slice_get};
 ghost use Rattle.std.specs.List.{AllByRecursion};
 ghost use Rattle.session_model.specs.Runs.{is_open as is_open_slot};
 ghost use Rattle.session_model.specs.Session.{begun as begun_of, asks_file as asks_file_of, asks_open as asks_open_of, asks_close as asks_close_of, node_of as node_of_slot, node_at as node_at_of, first_open as first_open_of, upcoming as upcoming_of, IsReady, Waits};
@@ -120,7 +120,7 @@ fn begun(slots: &[Slot], op: Op) -> Begun
         Op::Mkdir(path) => on_tree(TreeCall::Mkdir(path)),
         Op::Rmdir(path) => on_tree(TreeCall::Rmdir(path)),
         Op::Unlink(path) => on_tree(TreeCall::Unlink(path)),
-        Op::Rename(old, new) => on_tree(TreeCall::Rename(old, new)),
+        Op::Rename(paths) => on_tree(TreeCall::Rename(paths)),
         Op::List(path) => on_tree(TreeCall::List(path)),
         Op::Stat(path) => on_tree(TreeCall::Stat(path)),
         Op::Open(slot, path) => on_open(node_at(slots, slot), slot, TreeCall::Resolve(path)),
@@ -150,6 +150,17 @@ fn first_open(slots: &[Slot; SLOTS], from: u32) -> Option<u32>
     None
 }
 
+/// The next operation. The room of a script is let go by and by, since its session lives until the report is written.
+fn next_op(left: &mut VecDeque<Op>) -> Option<Op>
+    ensures { MatchOption result ((left.old.items ≡ []) × (left.new.items ≡ [])) (λ op. left.old.items ≡ op ∷ left.new.items) }
+{
+    let op = left.pop_front()?;
+    if left.len() <= left.capacity() / 2 {
+        left.shrink_to_fit();
+    }
+    Some(op)
+}
+
 /// What a session does next, with this of its script left, these slots, so many of them passed by the closes at the end, and this in hand.
 pub(crate) fn upcoming(
     left: &mut VecDeque<Op>,
@@ -175,11 +186,9 @@ pub(crate) fn upcoming(
             hand: Hand::Attaches(slot, node),
         };
     }
-    if let Some(op) = left.pop_front() {
+    if let Some(op) = next_op(left) {
         return begun(slots, op);
     }
-    // The script's room is let go here, since its session lives until the report is written.
-    left.shrink_to_fit();
     match first_open(slots, *past) {
         Some(slot) => {
             *past = slot + 1;

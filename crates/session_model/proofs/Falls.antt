@@ -51,7 +51,7 @@ begun_light : (slots : List Slot) (op : Op) → weight (begun slots op).hand ≤
 begun_light slots (ops.Mkdir path) = omega arith
 begun_light slots (ops.Rmdir path) = omega arith
 begun_light slots (ops.Unlink path) = omega arith
-begun_light slots (ops.Rename old new) = omega arith
+begun_light slots (ops.Rename paths) = omega arith
 begun_light slots (ops.List path) = omega arith
 begun_light slots (ops.Stat path) = omega arith
 begun_light slots (ops.Open slot path) = open_light (node_at slots slot) slot _

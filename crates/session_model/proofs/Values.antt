@@ -63,10 +63,10 @@ pub first_with_a_reply_left_out : Runs (fresh 0 first_script) (record { tree = f
 first_with_a_reply_left_out h = let k : Checks (Unit {0}) 10 (fresh 0 first_script) first_tree first_file ((replies.Opened 2) ∷ replies.Slot ∷ (replies.File file_replies.Done) ∷ (replies.Tree (tree_replies.Names (record { kind = kinds.Dir; name = codes "d" } ∷ record { kind = kinds.File; name = codes "f" } ∷ []))) ∷ (replies.File (file_replies.Length 3)) ∷ replies.Handle ∷ (replies.File file_replies.Done) ∷ []) = checks 10 (fresh 0 first_script) (record { tree = first_tree; file = first_file }) ((replies.Opened 2) ∷ replies.Slot ∷ (replies.File file_replies.Done) ∷ (replies.Tree (tree_replies.Names (record { kind = kinds.Dir; name = codes "d" } ∷ record { kind = kinds.File; name = codes "f" } ∷ []))) ∷ (replies.File (file_replies.Length 3)) ∷ replies.Handle ∷ (replies.File file_replies.Done) ∷ []) h in grind arith
 
 abbrev every_script : List Op
-every_script = ((ops.Mkdir (codes "d" ∷ [])) ∷ (ops.Rmdir (codes "d" ∷ [])) ∷ (ops.Create 3 (codes "f" ∷ [])) ∷ (ops.Write 3 1 (120 ∷ 121 ∷ [])) ∷ (ops.Read 3 0 9) ∷ (ops.Truncate 3 2) ∷ (ops.Size 3) ∷ (ops.Sync 3) ∷ (ops.Rename (codes "f" ∷ []) (codes "g" ∷ [])) ∷ (ops.Stat (codes "g" ∷ [])) ∷ (ops.List []) ∷ (ops.Open 4 (codes "g" ∷ [])) ∷ (ops.Close 3) ∷ (ops.Unlink (codes "g" ∷ [])) ∷ (ops.Unlink (codes "nope" ∷ [])) ∷ [])
+every_script = ((ops.Mkdir (codes "d" ∷ [])) ∷ (ops.Rmdir (codes "d" ∷ [])) ∷ (ops.Create 3 (codes "f" ∷ [])) ∷ (ops.Write 3 1 (120 ∷ 121 ∷ [])) ∷ (ops.Read 3 0 9) ∷ (ops.Truncate 3 2) ∷ (ops.Size 3) ∷ (ops.Sync 3) ∷ (ops.Rename (record { old = codes "f" ∷ []; new = codes "g" ∷ [] })) ∷ (ops.Stat (codes "g" ∷ [])) ∷ (ops.List []) ∷ (ops.Open 4 (codes "g" ∷ [])) ∷ (ops.Close 3) ∷ (ops.Unlink (codes "g" ∷ [])) ∷ (ops.Unlink (codes "nope" ∷ [])) ∷ [])
 
 abbrev every_tree : List TreeEntry
-every_tree = (record { session = 0; op = 0; call = (on_tree.Mkdir (codes "d" ∷ [])); reply = tree_replies.Done; before = 0; after = 0 } ∷ record { session = 0; op = 1; call = (on_tree.Rmdir (codes "d" ∷ [])); reply = tree_replies.Done; before = 0; after = 0 } ∷ record { session = 0; op = 2; call = (on_tree.Create (codes "f" ∷ [])); reply = (tree_replies.Node 2); before = 0; after = 0 } ∷ record { session = 0; op = 8; call = (on_tree.Rename (codes "f" ∷ []) (codes "g" ∷ [])); reply = tree_replies.Done; before = 0; after = 0 } ∷ record { session = 0; op = 9; call = (on_tree.Stat (codes "g" ∷ [])); reply = (tree_replies.Info kinds.File 2); before = 0; after = 0 } ∷ record { session = 0; op = 10; call = (on_tree.List []); reply = (tree_replies.Names (record { kind = kinds.File; name = codes "g" } ∷ [])); before = 0; after = 0 } ∷ record { session = 0; op = 11; call = (on_tree.Resolve (codes "g" ∷ [])); reply = (tree_replies.Node 2); before = 0; after = 0 } ∷ record { session = 0; op = 13; call = (on_tree.Unlink (codes "g" ∷ [])); reply = tree_replies.Done; before = 0; after = 0 } ∷ record { session = 0; op = 14; call = (on_tree.Unlink (codes "nope" ∷ [])); reply = (tree_replies.Refused refusals.NotFound); before = 0; after = 0 } ∷ [])
+every_tree = (record { session = 0; op = 0; call = (on_tree.Mkdir (codes "d" ∷ [])); reply = tree_replies.Done; before = 0; after = 0 } ∷ record { session = 0; op = 1; call = (on_tree.Rmdir (codes "d" ∷ [])); reply = tree_replies.Done; before = 0; after = 0 } ∷ record { session = 0; op = 2; call = (on_tree.Create (codes "f" ∷ [])); reply = (tree_replies.Node 2); before = 0; after = 0 } ∷ record { session = 0; op = 8; call = (on_tree.Rename (record { old = codes "f" ∷ []; new = codes "g" ∷ [] })); reply = tree_replies.Done; before = 0; after = 0 } ∷ record { session = 0; op = 9; call = (on_tree.Stat (codes "g" ∷ [])); reply = (tree_replies.Info kinds.File 2); before = 0; after = 0 } ∷ record { session = 0; op = 10; call = (on_tree.List []); reply = (tree_replies.Names (record { kind = kinds.File; name = codes "g" } ∷ [])); before = 0; after = 0 } ∷ record { session = 0; op = 11; call = (on_tree.Resolve (codes "g" ∷ [])); reply = (tree_replies.Node 2); before = 0; after = 0 } ∷ record { session = 0; op = 13; call = (on_tree.Unlink (codes "g" ∷ [])); reply = tree_replies.Done; before = 0; after = 0 } ∷ record { session = 0; op = 14; call = (on_tree.Unlink (codes "nope" ∷ [])); reply = (tree_replies.Refused refusals.NotFound); before = 0; after = 0 } ∷ [])
 
 abbrev every_file : List FileEntry
 every_file = (record { session = 0; op = 2; node = 2; call = (on_file.Attach 3); reply = file_replies.Done; before = 0; after = 0 } ∷ record { session = 0; op = 3; node = 2; call = (on_file.Write 3 1 (120 ∷ 121 ∷ [])); reply = file_replies.Done; before = 0; after = 0 } ∷ record { session = 0; op = 4; node = 2; call = (on_file.Read 3 0 9); reply = (file_replies.Octets (0 ∷ 120 ∷ 121 ∷ [])); before = 0; after = 0 } ∷ record { session = 0; op = 5; node = 2; call = (on_file.Truncate 3 2); reply = file_replies.Done; before = 0; after = 0 } ∷ record { session = 0; op = 6; node = 2; call = (on_file.Size 3); reply = (file_replies.Length 2); before = 0; after = 0 } ∷ record { session = 0; op = 7; node = 2; call = (on_file.Sync 3); reply = file_replies.Done; before = 0; after = 0 } ∷ record { session = 0; op = 11; node = 2; call = (on_file.Attach 4); reply = file_replies.Done; before = 0; after = 0 } ∷ record { session = 0; op = 12; node = 2; call = (on_file.Detach 3); reply = file_replies.Done; before = 0; after = 0 } ∷ record { session = 0; op = 15; node = 2; call = (on_file.Detach 4); reply = file_replies.Done; before = 0; after = 0 } ∷ [])
@@ -80,14 +80,14 @@ every = runs 19 (fresh 0 every_script) every_tree every_file every_replies (inr 
 pub every_without_the_last_file_entry : Runs (fresh 0 every_script) (record { tree = every_tree; file = (record { session = 0; op = 2; node = 2; call = (on_file.Attach 3); reply = file_replies.Done; before = 0; after = 0 } ∷ record { session = 0; op = 3; node = 2; call = (on_file.Write 3 1 (120 ∷ 121 ∷ [])); reply = file_replies.Done; before = 0; after = 0 } ∷ record { session = 0; op = 4; node = 2; call = (on_file.Read 3 0 9); reply = (file_replies.Octets (0 ∷ 120 ∷ 121 ∷ [])); before = 0; after = 0 } ∷ record { session = 0; op = 5; node = 2; call = (on_file.Truncate 3 2); reply = file_replies.Done; before = 0; after = 0 } ∷ record { session = 0; op = 6; node = 2; call = (on_file.Size 3); reply = (file_replies.Length 2); before = 0; after = 0 } ∷ record { session = 0; op = 7; node = 2; call = (on_file.Sync 3); reply = file_replies.Done; before = 0; after = 0 } ∷ record { session = 0; op = 11; node = 2; call = (on_file.Attach 4); reply = file_replies.Done; before = 0; after = 0 } ∷ record { session = 0; op = 12; node = 2; call = (on_file.Detach 3); reply = file_replies.Done; before = 0; after = 0 } ∷ []) }) every_replies → ⊥
 every_without_the_last_file_entry h = let k : Checks (Unit {0}) 19 (fresh 0 every_script) every_tree (record { session = 0; op = 2; node = 2; call = (on_file.Attach 3); reply = file_replies.Done; before = 0; after = 0 } ∷ record { session = 0; op = 3; node = 2; call = (on_file.Write 3 1 (120 ∷ 121 ∷ [])); reply = file_replies.Done; before = 0; after = 0 } ∷ record { session = 0; op = 4; node = 2; call = (on_file.Read 3 0 9); reply = (file_replies.Octets (0 ∷ 120 ∷ 121 ∷ [])); before = 0; after = 0 } ∷ record { session = 0; op = 5; node = 2; call = (on_file.Truncate 3 2); reply = file_replies.Done; before = 0; after = 0 } ∷ record { session = 0; op = 6; node = 2; call = (on_file.Size 3); reply = (file_replies.Length 2); before = 0; after = 0 } ∷ record { session = 0; op = 7; node = 2; call = (on_file.Sync 3); reply = file_replies.Done; before = 0; after = 0 } ∷ record { session = 0; op = 11; node = 2; call = (on_file.Attach 4); reply = file_replies.Done; before = 0; after = 0 } ∷ record { session = 0; op = 12; node = 2; call = (on_file.Detach 3); reply = file_replies.Done; before = 0; after = 0 } ∷ []) every_replies = checks 19 (fresh 0 every_script) (record { tree = every_tree; file = (record { session = 0; op = 2; node = 2; call = (on_file.Attach 3); reply = file_replies.Done; before = 0; after = 0 } ∷ record { session = 0; op = 3; node = 2; call = (on_file.Write 3 1 (120 ∷ 121 ∷ [])); reply = file_replies.Done; before = 0; after = 0 } ∷ record { session = 0; op = 4; node = 2; call = (on_file.Read 3 0 9); reply = (file_replies.Octets (0 ∷ 120 ∷ 121 ∷ [])); before = 0; after = 0 } ∷ record { session = 0; op = 5; node = 2; call = (on_file.Truncate 3 2); reply = file_replies.Done; before = 0; after = 0 } ∷ record { session = 0; op = 6; node = 2; call = (on_file.Size 3); reply = (file_replies.Length 2); before = 0; after = 0 } ∷ record { session = 0; op = 7; node = 2; call = (on_file.Sync 3); reply = file_replies.Done; before = 0; after = 0 } ∷ record { session = 0; op = 11; node = 2; call = (on_file.Attach 4); reply = file_replies.Done; before = 0; after = 0 } ∷ record { session = 0; op = 12; node = 2; call = (on_file.Detach 3); reply = file_replies.Done; before = 0; after = 0 } ∷ []) }) every_replies h in grind arith
 
-pub every_without_the_first_tree_entry : Runs (fresh 0 every_script) (record { tree = (record { session = 0; op = 1; call = (on_tree.Rmdir (codes "d" ∷ [])); reply = tree_replies.Done; before = 0; after = 0 } ∷ record { session = 0; op = 2; call = (on_tree.Create (codes "f" ∷ [])); reply = (tree_replies.Node 2); before = 0; after = 0 } ∷ record { session = 0; op = 8; call = (on_tree.Rename (codes "f" ∷ []) (codes "g" ∷ [])); reply = tree_replies.Done; before = 0; after = 0 } ∷ record { session = 0; op = 9; call = (on_tree.Stat (codes "g" ∷ [])); reply = (tree_replies.Info kinds.File 2); before = 0; after = 0 } ∷ record { session = 0; op = 10; call = (on_tree.List []); reply = (tree_replies.Names (record { kind = kinds.File; name = codes "g" } ∷ [])); before = 0; after = 0 } ∷ record { session = 0; op = 11; call = (on_tree.Resolve (codes "g" ∷ [])); reply = (tree_replies.Node 2); before = 0; after = 0 } ∷ record { session = 0; op = 13; call = (on_tree.Unlink (codes "g" ∷ [])); reply = tree_replies.Done; before = 0; after = 0 } ∷ record { session = 0; op = 14; call = (on_tree.Unlink (codes "nope" ∷ [])); reply = (tree_replies.Refused refusals.NotFound); before = 0; after = 0 } ∷ []); file = every_file }) every_replies → ⊥
-every_without_the_first_tree_entry h = let k : Checks (Unit {0}) 19 (fresh 0 every_script) (record { session = 0; op = 1; call = (on_tree.Rmdir (codes "d" ∷ [])); reply = tree_replies.Done; before = 0; after = 0 } ∷ record { session = 0; op = 2; call = (on_tree.Create (codes "f" ∷ [])); reply = (tree_replies.Node 2); before = 0; after = 0 } ∷ record { session = 0; op = 8; call = (on_tree.Rename (codes "f" ∷ []) (codes "g" ∷ [])); reply = tree_replies.Done; before = 0; after = 0 } ∷ record { session = 0; op = 9; call = (on_tree.Stat (codes "g" ∷ [])); reply = (tree_replies.Info kinds.File 2); before = 0; after = 0 } ∷ record { session = 0; op = 10; call = (on_tree.List []); reply = (tree_replies.Names (record { kind = kinds.File; name = codes "g" } ∷ [])); before = 0; after = 0 } ∷ record { session = 0; op = 11; call = (on_tree.Resolve (codes "g" ∷ [])); reply = (tree_replies.Node 2); before = 0; after = 0 } ∷ record { session = 0; op = 13; call = (on_tree.Unlink (codes "g" ∷ [])); reply = tree_replies.Done; before = 0; after = 0 } ∷ record { session = 0; op = 14; call = (on_tree.Unlink (codes "nope" ∷ [])); reply = (tree_replies.Refused refusals.NotFound); before = 0; after = 0 } ∷ []) every_file every_replies = checks 19 (fresh 0 every_script) (record { tree = (record { session = 0; op = 1; call = (on_tree.Rmdir (codes "d" ∷ [])); reply = tree_replies.Done; before = 0; after = 0 } ∷ record { session = 0; op = 2; call = (on_tree.Create (codes "f" ∷ [])); reply = (tree_replies.Node 2); before = 0; after = 0 } ∷ record { session = 0; op = 8; call = (on_tree.Rename (codes "f" ∷ []) (codes "g" ∷ [])); reply = tree_replies.Done; before = 0; after = 0 } ∷ record { session = 0; op = 9; call = (on_tree.Stat (codes "g" ∷ [])); reply = (tree_replies.Info kinds.File 2); before = 0; after = 0 } ∷ record { session = 0; op = 10; call = (on_tree.List []); reply = (tree_replies.Names (record { kind = kinds.File; name = codes "g" } ∷ [])); before = 0; after = 0 } ∷ record { session = 0; op = 11; call = (on_tree.Resolve (codes "g" ∷ [])); reply = (tree_replies.Node 2); before = 0; after = 0 } ∷ record { session = 0; op = 13; call = (on_tree.Unlink (codes "g" ∷ [])); reply = tree_replies.Done; before = 0; after = 0 } ∷ record { session = 0; op = 14; call = (on_tree.Unlink (codes "nope" ∷ [])); reply = (tree_replies.Refused refusals.NotFound); before = 0; after = 0 } ∷ []); file = every_file }) every_replies h in grind arith
+pub every_without_the_first_tree_entry : Runs (fresh 0 every_script) (record { tree = (record { session = 0; op = 1; call = (on_tree.Rmdir (codes "d" ∷ [])); reply = tree_replies.Done; before = 0; after = 0 } ∷ record { session = 0; op = 2; call = (on_tree.Create (codes "f" ∷ [])); reply = (tree_replies.Node 2); before = 0; after = 0 } ∷ record { session = 0; op = 8; call = (on_tree.Rename (record { old = codes "f" ∷ []; new = codes "g" ∷ [] })); reply = tree_replies.Done; before = 0; after = 0 } ∷ record { session = 0; op = 9; call = (on_tree.Stat (codes "g" ∷ [])); reply = (tree_replies.Info kinds.File 2); before = 0; after = 0 } ∷ record { session = 0; op = 10; call = (on_tree.List []); reply = (tree_replies.Names (record { kind = kinds.File; name = codes "g" } ∷ [])); before = 0; after = 0 } ∷ record { session = 0; op = 11; call = (on_tree.Resolve (codes "g" ∷ [])); reply = (tree_replies.Node 2); before = 0; after = 0 } ∷ record { session = 0; op = 13; call = (on_tree.Unlink (codes "g" ∷ [])); reply = tree_replies.Done; before = 0; after = 0 } ∷ record { session = 0; op = 14; call = (on_tree.Unlink (codes "nope" ∷ [])); reply = (tree_replies.Refused refusals.NotFound); before = 0; after = 0 } ∷ []); file = every_file }) every_replies → ⊥
+every_without_the_first_tree_entry h = let k : Checks (Unit {0}) 19 (fresh 0 every_script) (record { session = 0; op = 1; call = (on_tree.Rmdir (codes "d" ∷ [])); reply = tree_replies.Done; before = 0; after = 0 } ∷ record { session = 0; op = 2; call = (on_tree.Create (codes "f" ∷ [])); reply = (tree_replies.Node 2); before = 0; after = 0 } ∷ record { session = 0; op = 8; call = (on_tree.Rename (record { old = codes "f" ∷ []; new = codes "g" ∷ [] })); reply = tree_replies.Done; before = 0; after = 0 } ∷ record { session = 0; op = 9; call = (on_tree.Stat (codes "g" ∷ [])); reply = (tree_replies.Info kinds.File 2); before = 0; after = 0 } ∷ record { session = 0; op = 10; call = (on_tree.List []); reply = (tree_replies.Names (record { kind = kinds.File; name = codes "g" } ∷ [])); before = 0; after = 0 } ∷ record { session = 0; op = 11; call = (on_tree.Resolve (codes "g" ∷ [])); reply = (tree_replies.Node 2); before = 0; after = 0 } ∷ record { session = 0; op = 13; call = (on_tree.Unlink (codes "g" ∷ [])); reply = tree_replies.Done; before = 0; after = 0 } ∷ record { session = 0; op = 14; call = (on_tree.Unlink (codes "nope" ∷ [])); reply = (tree_replies.Refused refusals.NotFound); before = 0; after = 0 } ∷ []) every_file every_replies = checks 19 (fresh 0 every_script) (record { tree = (record { session = 0; op = 1; call = (on_tree.Rmdir (codes "d" ∷ [])); reply = tree_replies.Done; before = 0; after = 0 } ∷ record { session = 0; op = 2; call = (on_tree.Create (codes "f" ∷ [])); reply = (tree_replies.Node 2); before = 0; after = 0 } ∷ record { session = 0; op = 8; call = (on_tree.Rename (record { old = codes "f" ∷ []; new = codes "g" ∷ [] })); reply = tree_replies.Done; before = 0; after = 0 } ∷ record { session = 0; op = 9; call = (on_tree.Stat (codes "g" ∷ [])); reply = (tree_replies.Info kinds.File 2); before = 0; after = 0 } ∷ record { session = 0; op = 10; call = (on_tree.List []); reply = (tree_replies.Names (record { kind = kinds.File; name = codes "g" } ∷ [])); before = 0; after = 0 } ∷ record { session = 0; op = 11; call = (on_tree.Resolve (codes "g" ∷ [])); reply = (tree_replies.Node 2); before = 0; after = 0 } ∷ record { session = 0; op = 13; call = (on_tree.Unlink (codes "g" ∷ [])); reply = tree_replies.Done; before = 0; after = 0 } ∷ record { session = 0; op = 14; call = (on_tree.Unlink (codes "nope" ∷ [])); reply = (tree_replies.Refused refusals.NotFound); before = 0; after = 0 } ∷ []); file = every_file }) every_replies h in grind arith
 
 pub every_with_two_file_entries_exchanged : Runs (fresh 0 every_script) (record { tree = every_tree; file = (record { session = 0; op = 3; node = 2; call = (on_file.Write 3 1 (120 ∷ 121 ∷ [])); reply = file_replies.Done; before = 0; after = 0 } ∷ record { session = 0; op = 2; node = 2; call = (on_file.Attach 3); reply = file_replies.Done; before = 0; after = 0 } ∷ record { session = 0; op = 4; node = 2; call = (on_file.Read 3 0 9); reply = (file_replies.Octets (0 ∷ 120 ∷ 121 ∷ [])); before = 0; after = 0 } ∷ record { session = 0; op = 5; node = 2; call = (on_file.Truncate 3 2); reply = file_replies.Done; before = 0; after = 0 } ∷ record { session = 0; op = 6; node = 2; call = (on_file.Size 3); reply = (file_replies.Length 2); before = 0; after = 0 } ∷ record { session = 0; op = 7; node = 2; call = (on_file.Sync 3); reply = file_replies.Done; before = 0; after = 0 } ∷ record { session = 0; op = 11; node = 2; call = (on_file.Attach 4); reply = file_replies.Done; before = 0; after = 0 } ∷ record { session = 0; op = 12; node = 2; call = (on_file.Detach 3); reply = file_replies.Done; before = 0; after = 0 } ∷ record { session = 0; op = 15; node = 2; call = (on_file.Detach 4); reply = file_replies.Done; before = 0; after = 0 } ∷ []) }) every_replies → ⊥
 every_with_two_file_entries_exchanged h = let k : Checks (Unit {0}) 19 (fresh 0 every_script) every_tree (record { session = 0; op = 3; node = 2; call = (on_file.Write 3 1 (120 ∷ 121 ∷ [])); reply = file_replies.Done; before = 0; after = 0 } ∷ record { session = 0; op = 2; node = 2; call = (on_file.Attach 3); reply = file_replies.Done; before = 0; after = 0 } ∷ record { session = 0; op = 4; node = 2; call = (on_file.Read 3 0 9); reply = (file_replies.Octets (0 ∷ 120 ∷ 121 ∷ [])); before = 0; after = 0 } ∷ record { session = 0; op = 5; node = 2; call = (on_file.Truncate 3 2); reply = file_replies.Done; before = 0; after = 0 } ∷ record { session = 0; op = 6; node = 2; call = (on_file.Size 3); reply = (file_replies.Length 2); before = 0; after = 0 } ∷ record { session = 0; op = 7; node = 2; call = (on_file.Sync 3); reply = file_replies.Done; before = 0; after = 0 } ∷ record { session = 0; op = 11; node = 2; call = (on_file.Attach 4); reply = file_replies.Done; before = 0; after = 0 } ∷ record { session = 0; op = 12; node = 2; call = (on_file.Detach 3); reply = file_replies.Done; before = 0; after = 0 } ∷ record { session = 0; op = 15; node = 2; call = (on_file.Detach 4); reply = file_replies.Done; before = 0; after = 0 } ∷ []) every_replies = checks 19 (fresh 0 every_script) (record { tree = every_tree; file = (record { session = 0; op = 3; node = 2; call = (on_file.Write 3 1 (120 ∷ 121 ∷ [])); reply = file_replies.Done; before = 0; after = 0 } ∷ record { session = 0; op = 2; node = 2; call = (on_file.Attach 3); reply = file_replies.Done; before = 0; after = 0 } ∷ record { session = 0; op = 4; node = 2; call = (on_file.Read 3 0 9); reply = (file_replies.Octets (0 ∷ 120 ∷ 121 ∷ [])); before = 0; after = 0 } ∷ record { session = 0; op = 5; node = 2; call = (on_file.Truncate 3 2); reply = file_replies.Done; before = 0; after = 0 } ∷ record { session = 0; op = 6; node = 2; call = (on_file.Size 3); reply = (file_replies.Length 2); before = 0; after = 0 } ∷ record { session = 0; op = 7; node = 2; call = (on_file.Sync 3); reply = file_replies.Done; before = 0; after = 0 } ∷ record { session = 0; op = 11; node = 2; call = (on_file.Attach 4); reply = file_replies.Done; before = 0; after = 0 } ∷ record { session = 0; op = 12; node = 2; call = (on_file.Detach 3); reply = file_replies.Done; before = 0; after = 0 } ∷ record { session = 0; op = 15; node = 2; call = (on_file.Detach 4); reply = file_replies.Done; before = 0; after = 0 } ∷ []) }) every_replies h in grind arith
 
-pub every_with_two_tree_entries_exchanged : Runs (fresh 0 every_script) (record { tree = (record { session = 0; op = 1; call = (on_tree.Rmdir (codes "d" ∷ [])); reply = tree_replies.Done; before = 0; after = 0 } ∷ record { session = 0; op = 0; call = (on_tree.Mkdir (codes "d" ∷ [])); reply = tree_replies.Done; before = 0; after = 0 } ∷ record { session = 0; op = 2; call = (on_tree.Create (codes "f" ∷ [])); reply = (tree_replies.Node 2); before = 0; after = 0 } ∷ record { session = 0; op = 8; call = (on_tree.Rename (codes "f" ∷ []) (codes "g" ∷ [])); reply = tree_replies.Done; before = 0; after = 0 } ∷ record { session = 0; op = 9; call = (on_tree.Stat (codes "g" ∷ [])); reply = (tree_replies.Info kinds.File 2); before = 0; after = 0 } ∷ record { session = 0; op = 10; call = (on_tree.List []); reply = (tree_replies.Names (record { kind = kinds.File; name = codes "g" } ∷ [])); before = 0; after = 0 } ∷ record { session = 0; op = 11; call = (on_tree.Resolve (codes "g" ∷ [])); reply = (tree_replies.Node 2); before = 0; after = 0 } ∷ record { session = 0; op = 13; call = (on_tree.Unlink (codes "g" ∷ [])); reply = tree_replies.Done; before = 0; after = 0 } ∷ record { session = 0; op = 14; call = (on_tree.Unlink (codes "nope" ∷ [])); reply = (tree_replies.Refused refusals.NotFound); before = 0; after = 0 } ∷ []); file = every_file }) every_replies → ⊥
-every_with_two_tree_entries_exchanged h = let k : Checks (Unit {0}) 19 (fresh 0 every_script) (record { session = 0; op = 1; call = (on_tree.Rmdir (codes "d" ∷ [])); reply = tree_replies.Done; before = 0; after = 0 } ∷ record { session = 0; op = 0; call = (on_tree.Mkdir (codes "d" ∷ [])); reply = tree_replies.Done; before = 0; after = 0 } ∷ record { session = 0; op = 2; call = (on_tree.Create (codes "f" ∷ [])); reply = (tree_replies.Node 2); before = 0; after = 0 } ∷ record { session = 0; op = 8; call = (on_tree.Rename (codes "f" ∷ []) (codes "g" ∷ [])); reply = tree_replies.Done; before = 0; after = 0 } ∷ record { session = 0; op = 9; call = (on_tree.Stat (codes "g" ∷ [])); reply = (tree_replies.Info kinds.File 2); before = 0; after = 0 } ∷ record { session = 0; op = 10; call = (on_tree.List []); reply = (tree_replies.Names (record { kind = kinds.File; name = codes "g" } ∷ [])); before = 0; after = 0 } ∷ record { session = 0; op = 11; call = (on_tree.Resolve (codes "g" ∷ [])); reply = (tree_replies.Node 2); before = 0; after = 0 } ∷ record { session = 0; op = 13; call = (on_tree.Unlink (codes "g" ∷ [])); reply = tree_replies.Done; before = 0; after = 0 } ∷ record { session = 0; op = 14; call = (on_tree.Unlink (codes "nope" ∷ [])); reply = (tree_replies.Refused refusals.NotFound); before = 0; after = 0 } ∷ []) every_file every_replies = checks 19 (fresh 0 every_script) (record { tree = (record { session = 0; op = 1; call = (on_tree.Rmdir (codes "d" ∷ [])); reply = tree_replies.Done; before = 0; after = 0 } ∷ record { session = 0; op = 0; call = (on_tree.Mkdir (codes "d" ∷ [])); reply = tree_replies.Done; before = 0; after = 0 } ∷ record { session = 0; op = 2; call = (on_tree.Create (codes "f" ∷ [])); reply = (tree_replies.Node 2); before = 0; after = 0 } ∷ record { session = 0; op = 8; call = (on_tree.Rename (codes "f" ∷ []) (codes "g" ∷ [])); reply = tree_replies.Done; before = 0; after = 0 } ∷ record { session = 0; op = 9; call = (on_tree.Stat (codes "g" ∷ [])); reply = (tree_replies.Info kinds.File 2); before = 0; after = 0 } ∷ record { session = 0; op = 10; call = (on_tree.List []); reply = (tree_replies.Names (record { kind = kinds.File; name = codes "g" } ∷ [])); before = 0; after = 0 } ∷ record { session = 0; op = 11; call = (on_tree.Resolve (codes "g" ∷ [])); reply = (tree_replies.Node 2); before = 0; after = 0 } ∷ record { session = 0; op = 13; call = (on_tree.Unlink (codes "g" ∷ [])); reply = tree_replies.Done; before = 0; after = 0 } ∷ record { session = 0; op = 14; call = (on_tree.Unlink (codes "nope" ∷ [])); reply = (tree_replies.Refused refusals.NotFound); before = 0; after = 0 } ∷ []); file = every_file }) every_replies h in grind arith
+pub every_with_two_tree_entries_exchanged : Runs (fresh 0 every_script) (record { tree = (record { session = 0; op = 1; call = (on_tree.Rmdir (codes "d" ∷ [])); reply = tree_replies.Done; before = 0; after = 0 } ∷ record { session = 0; op = 0; call = (on_tree.Mkdir (codes "d" ∷ [])); reply = tree_replies.Done; before = 0; after = 0 } ∷ record { session = 0; op = 2; call = (on_tree.Create (codes "f" ∷ [])); reply = (tree_replies.Node 2); before = 0; after = 0 } ∷ record { session = 0; op = 8; call = (on_tree.Rename (record { old = codes "f" ∷ []; new = codes "g" ∷ [] })); reply = tree_replies.Done; before = 0; after = 0 } ∷ record { session = 0; op = 9; call = (on_tree.Stat (codes "g" ∷ [])); reply = (tree_replies.Info kinds.File 2); before = 0; after = 0 } ∷ record { session = 0; op = 10; call = (on_tree.List []); reply = (tree_replies.Names (record { kind = kinds.File; name = codes "g" } ∷ [])); before = 0; after = 0 } ∷ record { session = 0; op = 11; call = (on_tree.Resolve (codes "g" ∷ [])); reply = (tree_replies.Node 2); before = 0; after = 0 } ∷ record { session = 0; op = 13; call = (on_tree.Unlink (codes "g" ∷ [])); reply = tree_replies.Done; before = 0; after = 0 } ∷ record { session = 0; op = 14; call = (on_tree.Unlink (codes "nope" ∷ [])); reply = (tree_replies.Refused refusals.NotFound); before = 0; after = 0 } ∷ []); file = every_file }) every_replies → ⊥
+every_with_two_tree_entries_exchanged h = let k : Checks (Unit {0}) 19 (fresh 0 every_script) (record { session = 0; op = 1; call = (on_tree.Rmdir (codes "d" ∷ [])); reply = tree_replies.Done; before = 0; after = 0 } ∷ record { session = 0; op = 0; call = (on_tree.Mkdir (codes "d" ∷ [])); reply = tree_replies.Done; before = 0; after = 0 } ∷ record { session = 0; op = 2; call = (on_tree.Create (codes "f" ∷ [])); reply = (tree_replies.Node 2); before = 0; after = 0 } ∷ record { session = 0; op = 8; call = (on_tree.Rename (record { old = codes "f" ∷ []; new = codes "g" ∷ [] })); reply = tree_replies.Done; before = 0; after = 0 } ∷ record { session = 0; op = 9; call = (on_tree.Stat (codes "g" ∷ [])); reply = (tree_replies.Info kinds.File 2); before = 0; after = 0 } ∷ record { session = 0; op = 10; call = (on_tree.List []); reply = (tree_replies.Names (record { kind = kinds.File; name = codes "g" } ∷ [])); before = 0; after = 0 } ∷ record { session = 0; op = 11; call = (on_tree.Resolve (codes "g" ∷ [])); reply = (tree_replies.Node 2); before = 0; after = 0 } ∷ record { session = 0; op = 13; call = (on_tree.Unlink (codes "g" ∷ [])); reply = tree_replies.Done; before = 0; after = 0 } ∷ record { session = 0; op = 14; call = (on_tree.Unlink (codes "nope" ∷ [])); reply = (tree_replies.Refused refusals.NotFound); before = 0; after = 0 } ∷ []) every_file every_replies = checks 19 (fresh 0 every_script) (record { tree = (record { session = 0; op = 1; call = (on_tree.Rmdir (codes "d" ∷ [])); reply = tree_replies.Done; before = 0; after = 0 } ∷ record { session = 0; op = 0; call = (on_tree.Mkdir (codes "d" ∷ [])); reply = tree_replies.Done; before = 0; after = 0 } ∷ record { session = 0; op = 2; call = (on_tree.Create (codes "f" ∷ [])); reply = (tree_replies.Node 2); before = 0; after = 0 } ∷ record { session = 0; op = 8; call = (on_tree.Rename (record { old = codes "f" ∷ []; new = codes "g" ∷ [] })); reply = tree_replies.Done; before = 0; after = 0 } ∷ record { session = 0; op = 9; call = (on_tree.Stat (codes "g" ∷ [])); reply = (tree_replies.Info kinds.File 2); before = 0; after = 0 } ∷ record { session = 0; op = 10; call = (on_tree.List []); reply = (tree_replies.Names (record { kind = kinds.File; name = codes "g" } ∷ [])); before = 0; after = 0 } ∷ record { session = 0; op = 11; call = (on_tree.Resolve (codes "g" ∷ [])); reply = (tree_replies.Node 2); before = 0; after = 0 } ∷ record { session = 0; op = 13; call = (on_tree.Unlink (codes "g" ∷ [])); reply = tree_replies.Done; before = 0; after = 0 } ∷ record { session = 0; op = 14; call = (on_tree.Unlink (codes "nope" ∷ [])); reply = (tree_replies.Refused refusals.NotFound); before = 0; after = 0 } ∷ []); file = every_file }) every_replies h in grind arith
 
 pub every_with_the_last_entry_in_the_next_operation : Runs (fresh 0 every_script) (record { tree = every_tree; file = (record { session = 0; op = 2; node = 2; call = (on_file.Attach 3); reply = file_replies.Done; before = 0; after = 0 } ∷ record { session = 0; op = 3; node = 2; call = (on_file.Write 3 1 (120 ∷ 121 ∷ [])); reply = file_replies.Done; before = 0; after = 0 } ∷ record { session = 0; op = 4; node = 2; call = (on_file.Read 3 0 9); reply = (file_replies.Octets (0 ∷ 120 ∷ 121 ∷ [])); before = 0; after = 0 } ∷ record { session = 0; op = 5; node = 2; call = (on_file.Truncate 3 2); reply = file_replies.Done; before = 0; after = 0 } ∷ record { session = 0; op = 6; node = 2; call = (on_file.Size 3); reply = (file_replies.Length 2); before = 0; after = 0 } ∷ record { session = 0; op = 7; node = 2; call = (on_file.Sync 3); reply = file_replies.Done; before = 0; after = 0 } ∷ record { session = 0; op = 11; node = 2; call = (on_file.Attach 4); reply = file_replies.Done; before = 0; after = 0 } ∷ record { session = 0; op = 12; node = 2; call = (on_file.Detach 3); reply = file_replies.Done; before = 0; after = 0 } ∷ record { session = 0; op = 16; node = 2; call = (on_file.Detach 4); reply = file_replies.Done; before = 0; after = 0 } ∷ []) }) every_replies → ⊥
 every_with_the_last_entry_in_the_next_operation h = let k : Checks (Unit {0}) 19 (fresh 0 every_script) every_tree (record { session = 0; op = 2; node = 2; call = (on_file.Attach 3); reply = file_replies.Done; before = 0; after = 0 } ∷ record { session = 0; op = 3; node = 2; call = (on_file.Write 3 1 (120 ∷ 121 ∷ [])); reply = file_replies.Done; before = 0; after = 0 } ∷ record { session = 0; op = 4; node = 2; call = (on_file.Read 3 0 9); reply = (file_replies.Octets (0 ∷ 120 ∷ 121 ∷ [])); before = 0; after = 0 } ∷ record { session = 0; op = 5; node = 2; call = (on_file.Truncate 3 2); reply = file_replies.Done; before = 0; after = 0 } ∷ record { session = 0; op = 6; node = 2; call = (on_file.Size 3); reply = (file_replies.Length 2); before = 0; after = 0 } ∷ record { session = 0; op = 7; node = 2; call = (on_file.Sync 3); reply = file_replies.Done; before = 0; after = 0 } ∷ record { session = 0; op = 11; node = 2; call = (on_file.Attach 4); reply = file_replies.Done; before = 0; after = 0 } ∷ record { session = 0; op = 12; node = 2; call = (on_file.Detach 3); reply = file_replies.Done; before = 0; after = 0 } ∷ record { session = 0; op = 16; node = 2; call = (on_file.Detach 4); reply = file_replies.Done; before = 0; after = 0 } ∷ []) every_replies = checks 19 (fresh 0 every_script) (record { tree = every_tree; file = (record { session = 0; op = 2; node = 2; call = (on_file.Attach 3); reply = file_replies.Done; before = 0; after = 0 } ∷ record { session = 0; op = 3; node = 2; call = (on_file.Write 3 1 (120 ∷ 121 ∷ [])); reply = file_replies.Done; before = 0; after = 0 } ∷ record { session = 0; op = 4; node = 2; call = (on_file.Read 3 0 9); reply = (file_replies.Octets (0 ∷ 120 ∷ 121 ∷ [])); before = 0; after = 0 } ∷ record { session = 0; op = 5; node = 2; call = (on_file.Truncate 3 2); reply = file_replies.Done; before = 0; after = 0 } ∷ record { session = 0; op = 6; node = 2; call = (on_file.Size 3); reply = (file_replies.Length 2); before = 0; after = 0 } ∷ record { session = 0; op = 7; node = 2; call = (on_file.Sync 3); reply = file_replies.Done; before = 0; after = 0 } ∷ record { session = 0; op = 11; node = 2; call = (on_file.Attach 4); reply = file_replies.Done; before = 0; after = 0 } ∷ record { session = 0; op = 12; node = 2; call = (on_file.Detach 3); reply = file_replies.Done; before = 0; after = 0 } ∷ record { session = 0; op = 16; node = 2; call = (on_file.Detach 4); reply = file_replies.Done; before = 0; after = 0 } ∷ []) }) every_replies h in grind arith
@@ -246,10 +246,10 @@ pub right_with_a_reply_left_out : Runs (fresh 1 right_script) (record { tree = r
 right_with_a_reply_left_out h = let k : Checks (Unit {0}) 6 (fresh 1 right_script) right_tree right_file ((replies.File (file_replies.Octets [])) ∷ (replies.Tree (tree_replies.Refused refusals.IsRoot)) ∷ (replies.File file_replies.Done) ∷ []) = checks 6 (fresh 1 right_script) (record { tree = right_tree; file = right_file }) ((replies.File (file_replies.Octets [])) ∷ (replies.Tree (tree_replies.Refused refusals.IsRoot)) ∷ (replies.File file_replies.Done) ∷ []) h in grind arith
 
 abbrev declined_script : List Op
-declined_script = ((ops.Mkdir (codes "d" ∷ [])) ∷ (ops.Rename (codes "d" ∷ []) (codes "d" ∷ codes "e" ∷ [])) ∷ (ops.Create 0 (codes "d" ∷ codes "f" ∷ [])) ∷ (ops.Rmdir (codes "d" ∷ [])) ∷ (ops.Mkdir (codes "d" ∷ codes "f" ∷ codes "g" ∷ [])) ∷ (ops.Create 1 (codes "d" ∷ [])) ∷ (ops.Truncate 0 70000000) ∷ (ops.Close 0) ∷ (ops.Close 0) ∷ [])
+declined_script = ((ops.Mkdir (codes "d" ∷ [])) ∷ (ops.Rename (record { old = codes "d" ∷ []; new = codes "d" ∷ codes "e" ∷ [] })) ∷ (ops.Create 0 (codes "d" ∷ codes "f" ∷ [])) ∷ (ops.Rmdir (codes "d" ∷ [])) ∷ (ops.Mkdir (codes "d" ∷ codes "f" ∷ codes "g" ∷ [])) ∷ (ops.Create 1 (codes "d" ∷ [])) ∷ (ops.Truncate 0 70000000) ∷ (ops.Close 0) ∷ (ops.Close 0) ∷ [])
 
 abbrev declined_tree : List TreeEntry
-declined_tree = (record { session = 0; op = 0; call = (on_tree.Mkdir (codes "d" ∷ [])); reply = tree_replies.Done; before = 0; after = 0 } ∷ record { session = 0; op = 1; call = (on_tree.Rename (codes "d" ∷ []) (codes "d" ∷ codes "e" ∷ [])); reply = (tree_replies.Refused refusals.Inside); before = 0; after = 0 } ∷ record { session = 0; op = 2; call = (on_tree.Create (codes "d" ∷ codes "f" ∷ [])); reply = (tree_replies.Node 2); before = 0; after = 0 } ∷ record { session = 0; op = 3; call = (on_tree.Rmdir (codes "d" ∷ [])); reply = (tree_replies.Refused refusals.NotEmpty); before = 0; after = 0 } ∷ record { session = 0; op = 4; call = (on_tree.Mkdir (codes "d" ∷ codes "f" ∷ codes "g" ∷ [])); reply = (tree_replies.Refused refusals.NotDir); before = 0; after = 0 } ∷ record { session = 0; op = 5; call = (on_tree.Create (codes "d" ∷ [])); reply = (tree_replies.Refused refusals.Exists); before = 0; after = 0 } ∷ [])
+declined_tree = (record { session = 0; op = 0; call = (on_tree.Mkdir (codes "d" ∷ [])); reply = tree_replies.Done; before = 0; after = 0 } ∷ record { session = 0; op = 1; call = (on_tree.Rename (record { old = codes "d" ∷ []; new = codes "d" ∷ codes "e" ∷ [] })); reply = (tree_replies.Refused refusals.Inside); before = 0; after = 0 } ∷ record { session = 0; op = 2; call = (on_tree.Create (codes "d" ∷ codes "f" ∷ [])); reply = (tree_replies.Node 2); before = 0; after = 0 } ∷ record { session = 0; op = 3; call = (on_tree.Rmdir (codes "d" ∷ [])); reply = (tree_replies.Refused refusals.NotEmpty); before = 0; after = 0 } ∷ record { session = 0; op = 4; call = (on_tree.Mkdir (codes "d" ∷ codes "f" ∷ codes "g" ∷ [])); reply = (tree_replies.Refused refusals.NotDir); before = 0; after = 0 } ∷ record { session = 0; op = 5; call = (on_tree.Create (codes "d" ∷ [])); reply = (tree_replies.Refused refusals.Exists); before = 0; after = 0 } ∷ [])
 
 abbrev declined_file : List FileEntry
 declined_file = (record { session = 0; op = 2; node = 2; call = (on_file.Attach 0); reply = file_replies.Done; before = 0; after = 0 } ∷ record { session = 0; op = 6; node = 2; call = (on_file.Truncate 0 70000000); reply = file_replies.TooBig; before = 0; after = 0 } ∷ record { session = 0; op = 7; node = 2; call = (on_file.Detach 0); reply = file_replies.Done; before = 0; after = 0 } ∷ [])
@@ -263,14 +263,14 @@ declined = runs 11 (fresh 0 declined_script) declined_tree declined_file decline
 pub declined_without_the_last_file_entry : Runs (fresh 0 declined_script) (record { tree = declined_tree; file = (record { session = 0; op = 2; node = 2; call = (on_file.Attach 0); reply = file_replies.Done; before = 0; after = 0 } ∷ record { session = 0; op = 6; node = 2; call = (on_file.Truncate 0 70000000); reply = file_replies.TooBig; before = 0; after = 0 } ∷ []) }) declined_replies → ⊥
 declined_without_the_last_file_entry h = let k : Checks (Unit {0}) 11 (fresh 0 declined_script) declined_tree (record { session = 0; op = 2; node = 2; call = (on_file.Attach 0); reply = file_replies.Done; before = 0; after = 0 } ∷ record { session = 0; op = 6; node = 2; call = (on_file.Truncate 0 70000000); reply = file_replies.TooBig; before = 0; after = 0 } ∷ []) declined_replies = checks 11 (fresh 0 declined_script) (record { tree = declined_tree; file = (record { session = 0; op = 2; node = 2; call = (on_file.Attach 0); reply = file_replies.Done; before = 0; after = 0 } ∷ record { session = 0; op = 6; node = 2; call = (on_file.Truncate 0 70000000); reply = file_replies.TooBig; before = 0; after = 0 } ∷ []) }) declined_replies h in grind arith
 
-pub declined_without_the_first_tree_entry : Runs (fresh 0 declined_script) (record { tree = (record { session = 0; op = 1; call = (on_tree.Rename (codes "d" ∷ []) (codes "d" ∷ codes "e" ∷ [])); reply = (tree_replies.Refused refusals.Inside); before = 0; after = 0 } ∷ record { session = 0; op = 2; call = (on_tree.Create (codes "d" ∷ codes "f" ∷ [])); reply = (tree_replies.Node 2); before = 0; after = 0 } ∷ record { session = 0; op = 3; call = (on_tree.Rmdir (codes "d" ∷ [])); reply = (tree_replies.Refused refusals.NotEmpty); before = 0; after = 0 } ∷ record { session = 0; op = 4; call = (on_tree.Mkdir (codes "d" ∷ codes "f" ∷ codes "g" ∷ [])); reply = (tree_replies.Refused refusals.NotDir); before = 0; after = 0 } ∷ record { session = 0; op = 5; call = (on_tree.Create (codes "d" ∷ [])); reply = (tree_replies.Refused refusals.Exists); before = 0; after = 0 } ∷ []); file = declined_file }) declined_replies → ⊥
-declined_without_the_first_tree_entry h = let k : Checks (Unit {0}) 11 (fresh 0 declined_script) (record { session = 0; op = 1; call = (on_tree.Rename (codes "d" ∷ []) (codes "d" ∷ codes "e" ∷ [])); reply = (tree_replies.Refused refusals.Inside); before = 0; after = 0 } ∷ record { session = 0; op = 2; call = (on_tree.Create (codes "d" ∷ codes "f" ∷ [])); reply = (tree_replies.Node 2); before = 0; after = 0 } ∷ record { session = 0; op = 3; call = (on_tree.Rmdir (codes "d" ∷ [])); reply = (tree_replies.Refused refusals.NotEmpty); before = 0; after = 0 } ∷ record { session = 0; op = 4; call = (on_tree.Mkdir (codes "d" ∷ codes "f" ∷ codes "g" ∷ [])); reply = (tree_replies.Refused refusals.NotDir); before = 0; after = 0 } ∷ record { session = 0; op = 5; call = (on_tree.Create (codes "d" ∷ [])); reply = (tree_replies.Refused refusals.Exists); before = 0; after = 0 } ∷ []) declined_file declined_replies = checks 11 (fresh 0 declined_script) (record { tree = (record { session = 0; op = 1; call = (on_tree.Rename (codes "d" ∷ []) (codes "d" ∷ codes "e" ∷ [])); reply = (tree_replies.Refused refusals.Inside); before = 0; after = 0 } ∷ record { session = 0; op = 2; call = (on_tree.Create (codes "d" ∷ codes "f" ∷ [])); reply = (tree_replies.Node 2); before = 0; after = 0 } ∷ record { session = 0; op = 3; call = (on_tree.Rmdir (codes "d" ∷ [])); reply = (tree_replies.Refused refusals.NotEmpty); before = 0; after = 0 } ∷ record { session = 0; op = 4; call = (on_tree.Mkdir (codes "d" ∷ codes "f" ∷ codes "g" ∷ [])); reply = (tree_replies.Refused refusals.NotDir); before = 0; after = 0 } ∷ record { session = 0; op = 5; call = (on_tree.Create (codes "d" ∷ [])); reply = (tree_replies.Refused refusals.Exists); before = 0; after = 0 } ∷ []); file = declined_file }) declined_replies h in grind arith
+pub declined_without_the_first_tree_entry : Runs (fresh 0 declined_script) (record { tree = (record { session = 0; op = 1; call = (on_tree.Rename (record { old = codes "d" ∷ []; new = codes "d" ∷ codes "e" ∷ [] })); reply = (tree_replies.Refused refusals.Inside); before = 0; after = 0 } ∷ record { session = 0; op = 2; call = (on_tree.Create (codes "d" ∷ codes "f" ∷ [])); reply = (tree_replies.Node 2); before = 0; after = 0 } ∷ record { session = 0; op = 3; call = (on_tree.Rmdir (codes "d" ∷ [])); reply = (tree_replies.Refused refusals.NotEmpty); before = 0; after = 0 } ∷ record { session = 0; op = 4; call = (on_tree.Mkdir (codes "d" ∷ codes "f" ∷ codes "g" ∷ [])); reply = (tree_replies.Refused refusals.NotDir); before = 0; after = 0 } ∷ record { session = 0; op = 5; call = (on_tree.Create (codes "d" ∷ [])); reply = (tree_replies.Refused refusals.Exists); before = 0; after = 0 } ∷ []); file = declined_file }) declined_replies → ⊥
+declined_without_the_first_tree_entry h = let k : Checks (Unit {0}) 11 (fresh 0 declined_script) (record { session = 0; op = 1; call = (on_tree.Rename (record { old = codes "d" ∷ []; new = codes "d" ∷ codes "e" ∷ [] })); reply = (tree_replies.Refused refusals.Inside); before = 0; after = 0 } ∷ record { session = 0; op = 2; call = (on_tree.Create (codes "d" ∷ codes "f" ∷ [])); reply = (tree_replies.Node 2); before = 0; after = 0 } ∷ record { session = 0; op = 3; call = (on_tree.Rmdir (codes "d" ∷ [])); reply = (tree_replies.Refused refusals.NotEmpty); before = 0; after = 0 } ∷ record { session = 0; op = 4; call = (on_tree.Mkdir (codes "d" ∷ codes "f" ∷ codes "g" ∷ [])); reply = (tree_replies.Refused refusals.NotDir); before = 0; after = 0 } ∷ record { session = 0; op = 5; call = (on_tree.Create (codes "d" ∷ [])); reply = (tree_replies.Refused refusals.Exists); before = 0; after = 0 } ∷ []) declined_file declined_replies = checks 11 (fresh 0 declined_script) (record { tree = (record { session = 0; op = 1; call = (on_tree.Rename (record { old = codes "d" ∷ []; new = codes "d" ∷ codes "e" ∷ [] })); reply = (tree_replies.Refused refusals.Inside); before = 0; after = 0 } ∷ record { session = 0; op = 2; call = (on_tree.Create (codes "d" ∷ codes "f" ∷ [])); reply = (tree_replies.Node 2); before = 0; after = 0 } ∷ record { session = 0; op = 3; call = (on_tree.Rmdir (codes "d" ∷ [])); reply = (tree_replies.Refused refusals.NotEmpty); before = 0; after = 0 } ∷ record { session = 0; op = 4; call = (on_tree.Mkdir (codes "d" ∷ codes "f" ∷ codes "g" ∷ [])); reply = (tree_replies.Refused refusals.NotDir); before = 0; after = 0 } ∷ record { session = 0; op = 5; call = (on_tree.Create (codes "d" ∷ [])); reply = (tree_replies.Refused refusals.Exists); before = 0; after = 0 } ∷ []); file = declined_file }) declined_replies h in grind arith
 
 pub declined_with_two_file_entries_exchanged : Runs (fresh 0 declined_script) (record { tree = declined_tree; file = (record { session = 0; op = 6; node = 2; call = (on_file.Truncate 0 70000000); reply = file_replies.TooBig; before = 0; after = 0 } ∷ record { session = 0; op = 2; node = 2; call = (on_file.Attach 0); reply = file_replies.Done; before = 0; after = 0 } ∷ record { session = 0; op = 7; node = 2; call = (on_file.Detach 0); reply = file_replies.Done; before = 0; after = 0 } ∷ []) }) declined_replies → ⊥
 declined_with_two_file_entries_exchanged h = let k : Checks (Unit {0}) 11 (fresh 0 declined_script) declined_tree (record { session = 0; op = 6; node = 2; call = (on_file.Truncate 0 70000000); reply = file_replies.TooBig; before = 0; after = 0 } ∷ record { session = 0; op = 2; node = 2; call = (on_file.Attach 0); reply = file_replies.Done; before = 0; after = 0 } ∷ record { session = 0; op = 7; node = 2; call = (on_file.Detach 0); reply = file_replies.Done; before = 0; after = 0 } ∷ []) declined_replies = checks 11 (fresh 0 declined_script) (record { tree = declined_tree; file = (record { session = 0; op = 6; node = 2; call = (on_file.Truncate 0 70000000); reply = file_replies.TooBig; before = 0; after = 0 } ∷ record { session = 0; op = 2; node = 2; call = (on_file.Attach 0); reply = file_replies.Done; before = 0; after = 0 } ∷ record { session = 0; op = 7; node = 2; call = (on_file.Detach 0); reply = file_replies.Done; before = 0; after = 0 } ∷ []) }) declined_replies h in grind arith
 
-pub declined_with_two_tree_entries_exchanged : Runs (fresh 0 declined_script) (record { tree = (record { session = 0; op = 1; call = (on_tree.Rename (codes "d" ∷ []) (codes "d" ∷ codes "e" ∷ [])); reply = (tree_replies.Refused refusals.Inside); before = 0; after = 0 } ∷ record { session = 0; op = 0; call = (on_tree.Mkdir (codes "d" ∷ [])); reply = tree_replies.Done; before = 0; after = 0 } ∷ record { session = 0; op = 2; call = (on_tree.Create (codes "d" ∷ codes "f" ∷ [])); reply = (tree_replies.Node 2); before = 0; after = 0 } ∷ record { session = 0; op = 3; call = (on_tree.Rmdir (codes "d" ∷ [])); reply = (tree_replies.Refused refusals.NotEmpty); before = 0; after = 0 } ∷ record { session = 0; op = 4; call = (on_tree.Mkdir (codes "d" ∷ codes "f" ∷ codes "g" ∷ [])); reply = (tree_replies.Refused refusals.NotDir); before = 0; after = 0 } ∷ record { session = 0; op = 5; call = (on_tree.Create (codes "d" ∷ [])); reply = (tree_replies.Refused refusals.Exists); before = 0; after = 0 } ∷ []); file = declined_file }) declined_replies → ⊥
-declined_with_two_tree_entries_exchanged h = let k : Checks (Unit {0}) 11 (fresh 0 declined_script) (record { session = 0; op = 1; call = (on_tree.Rename (codes "d" ∷ []) (codes "d" ∷ codes "e" ∷ [])); reply = (tree_replies.Refused refusals.Inside); before = 0; after = 0 } ∷ record { session = 0; op = 0; call = (on_tree.Mkdir (codes "d" ∷ [])); reply = tree_replies.Done; before = 0; after = 0 } ∷ record { session = 0; op = 2; call = (on_tree.Create (codes "d" ∷ codes "f" ∷ [])); reply = (tree_replies.Node 2); before = 0; after = 0 } ∷ record { session = 0; op = 3; call = (on_tree.Rmdir (codes "d" ∷ [])); reply = (tree_replies.Refused refusals.NotEmpty); before = 0; after = 0 } ∷ record { session = 0; op = 4; call = (on_tree.Mkdir (codes "d" ∷ codes "f" ∷ codes "g" ∷ [])); reply = (tree_replies.Refused refusals.NotDir); before = 0; after = 0 } ∷ record { session = 0; op = 5; call = (on_tree.Create (codes "d" ∷ [])); reply = (tree_replies.Refused refusals.Exists); before = 0; after = 0 } ∷ []) declined_file declined_replies = checks 11 (fresh 0 declined_script) (record { tree = (record { session = 0; op = 1; call = (on_tree.Rename (codes "d" ∷ []) (codes "d" ∷ codes "e" ∷ [])); reply = (tree_replies.Refused refusals.Inside); before = 0; after = 0 } ∷ record { session = 0; op = 0; call = (on_tree.Mkdir (codes "d" ∷ [])); reply = tree_replies.Done; before = 0; after = 0 } ∷ record { session = 0; op = 2; call = (on_tree.Create (codes "d" ∷ codes "f" ∷ [])); reply = (tree_replies.Node 2); before = 0; after = 0 } ∷ record { session = 0; op = 3; call = (on_tree.Rmdir (codes "d" ∷ [])); reply = (tree_replies.Refused refusals.NotEmpty); before = 0; after = 0 } ∷ record { session = 0; op = 4; call = (on_tree.Mkdir (codes "d" ∷ codes "f" ∷ codes "g" ∷ [])); reply = (tree_replies.Refused refusals.NotDir); before = 0; after = 0 } ∷ record { session = 0; op = 5; call = (on_tree.Create (codes "d" ∷ [])); reply = (tree_replies.Refused refusals.Exists); before = 0; after = 0 } ∷ []); file = declined_file }) declined_replies h in grind arith
+pub declined_with_two_tree_entries_exchanged : Runs (fresh 0 declined_script) (record { tree = (record { session = 0; op = 1; call = (on_tree.Rename (record { old = codes "d" ∷ []; new = codes "d" ∷ codes "e" ∷ [] })); reply = (tree_replies.Refused refusals.Inside); before = 0; after = 0 } ∷ record { session = 0; op = 0; call = (on_tree.Mkdir (codes "d" ∷ [])); reply = tree_replies.Done; before = 0; after = 0 } ∷ record { session = 0; op = 2; call = (on_tree.Create (codes "d" ∷ codes "f" ∷ [])); reply = (tree_replies.Node 2); before = 0; after = 0 } ∷ record { session = 0; op = 3; call = (on_tree.Rmdir (codes "d" ∷ [])); reply = (tree_replies.Refused refusals.NotEmpty); before = 0; after = 0 } ∷ record { session = 0; op = 4; call = (on_tree.Mkdir (codes "d" ∷ codes "f" ∷ codes "g" ∷ [])); reply = (tree_replies.Refused refusals.NotDir); before = 0; after = 0 } ∷ record { session = 0; op = 5; call = (on_tree.Create (codes "d" ∷ [])); reply = (tree_replies.Refused refusals.Exists); before = 0; after = 0 } ∷ []); file = declined_file }) declined_replies → ⊥
+declined_with_two_tree_entries_exchanged h = let k : Checks (Unit {0}) 11 (fresh 0 declined_script) (record { session = 0; op = 1; call = (on_tree.Rename (record { old = codes "d" ∷ []; new = codes "d" ∷ codes "e" ∷ [] })); reply = (tree_replies.Refused refusals.Inside); before = 0; after = 0 } ∷ record { session = 0; op = 0; call = (on_tree.Mkdir (codes "d" ∷ [])); reply = tree_replies.Done; before = 0; after = 0 } ∷ record { session = 0; op = 2; call = (on_tree.Create (codes "d" ∷ codes "f" ∷ [])); reply = (tree_replies.Node 2); before = 0; after = 0 } ∷ record { session = 0; op = 3; call = (on_tree.Rmdir (codes "d" ∷ [])); reply = (tree_replies.Refused refusals.NotEmpty); before = 0; after = 0 } ∷ record { session = 0; op = 4; call = (on_tree.Mkdir (codes "d" ∷ codes "f" ∷ codes "g" ∷ [])); reply = (tree_replies.Refused refusals.NotDir); before = 0; after = 0 } ∷ record { session = 0; op = 5; call = (on_tree.Create (codes "d" ∷ [])); reply = (tree_replies.Refused refusals.Exists); before = 0; after = 0 } ∷ []) declined_file declined_replies = checks 11 (fresh 0 declined_script) (record { tree = (record { session = 0; op = 1; call = (on_tree.Rename (record { old = codes "d" ∷ []; new = codes "d" ∷ codes "e" ∷ [] })); reply = (tree_replies.Refused refusals.Inside); before = 0; after = 0 } ∷ record { session = 0; op = 0; call = (on_tree.Mkdir (codes "d" ∷ [])); reply = tree_replies.Done; before = 0; after = 0 } ∷ record { session = 0; op = 2; call = (on_tree.Create (codes "d" ∷ codes "f" ∷ [])); reply = (tree_replies.Node 2); before = 0; after = 0 } ∷ record { session = 0; op = 3; call = (on_tree.Rmdir (codes "d" ∷ [])); reply = (tree_replies.Refused refusals.NotEmpty); before = 0; after = 0 } ∷ record { session = 0; op = 4; call = (on_tree.Mkdir (codes "d" ∷ codes "f" ∷ codes "g" ∷ [])); reply = (tree_replies.Refused refusals.NotDir); before = 0; after = 0 } ∷ record { session = 0; op = 5; call = (on_tree.Create (codes "d" ∷ [])); reply = (tree_replies.Refused refusals.Exists); before = 0; after = 0 } ∷ []); file = declined_file }) declined_replies h in grind arith
 
 pub declined_with_the_last_entry_in_the_next_operation : Runs (fresh 0 declined_script) (record { tree = declined_tree; file = (record { session = 0; op = 2; node = 2; call = (on_file.Attach 0); reply = file_replies.Done; before = 0; after = 0 } ∷ record { session = 0; op = 6; node = 2; call = (on_file.Truncate 0 70000000); reply = file_replies.TooBig; before = 0; after = 0 } ∷ record { session = 0; op = 8; node = 2; call = (on_file.Detach 0); reply = file_replies.Done; before = 0; after = 0 } ∷ []) }) declined_replies → ⊥
 declined_with_the_last_entry_in_the_next_operation h = let k : Checks (Unit {0}) 11 (fresh 0 declined_script) declined_tree (record { session = 0; op = 2; node = 2; call = (on_file.Attach 0); reply = file_replies.Done; before = 0; after = 0 } ∷ record { session = 0; op = 6; node = 2; call = (on_file.Truncate 0 70000000); reply = file_replies.TooBig; before = 0; after = 0 } ∷ record { session = 0; op = 8; node = 2; call = (on_file.Detach 0); reply = file_replies.Done; before = 0; after = 0 } ∷ []) declined_replies = checks 11 (fresh 0 declined_script) (record { tree = declined_tree; file = (record { session = 0; op = 2; node = 2; call = (on_file.Attach 0); reply = file_replies.Done; before = 0; after = 0 } ∷ record { session = 0; op = 6; node = 2; call = (on_file.Truncate 0 70000000); reply = file_replies.TooBig; before = 0; after = 0 } ∷ record { session = 0; op = 8; node = 2; call = (on_file.Detach 0); reply = file_replies.Done; before = 0; after = 0 } ∷ []) }) declined_replies h in grind arith

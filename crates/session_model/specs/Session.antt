@@ -75,7 +75,7 @@ abbrev pub begun : List Slot → Op → Begun
 begun slots (ops.Mkdir path) = asks_tree (on_tree.Mkdir path) hands.OnTree
 begun slots (ops.Rmdir path) = asks_tree (on_tree.Rmdir path) hands.OnTree
 begun slots (ops.Unlink path) = asks_tree (on_tree.Unlink path) hands.OnTree
-begun slots (ops.Rename old new) = asks_tree (on_tree.Rename old new) hands.OnTree
+begun slots (ops.Rename paths) = asks_tree (on_tree.Rename paths) hands.OnTree
 begun slots (ops.List path) = asks_tree (on_tree.List path) hands.OnTree
 begun slots (ops.Stat path) = asks_tree (on_tree.Stat path) hands.OnTree
 begun slots (ops.Open slot path) = asks_open (node_at slots slot) slot (on_tree.Resolve path)

@@ -41,7 +41,7 @@ begins_with : (s : Session) (op : Op) (rest : List Op) → IsTreeOp op → (call
 begins_with s (ops.Mkdir path) rest h = (on_tree.Mkdir path, refl)
 begins_with s (ops.Rmdir path) rest h = (on_tree.Rmdir path, refl)
 begins_with s (ops.Unlink path) rest h = (on_tree.Unlink path, refl)
-begins_with s (ops.Rename old new) rest h = (on_tree.Rename old new, refl)
+begins_with s (ops.Rename paths) rest h = (on_tree.Rename paths, refl)
 begins_with s (ops.List path) rest h = (on_tree.List path, refl)
 begins_with s (ops.Stat path) rest h = (on_tree.Stat path, refl)
 begins_with s (ops.Open slot path) rest h = absurd h

@@ -5,7 +5,7 @@ use session::{Op, Reply, Script, Session, TreeCall, TreeReply};
 use session_model::TreeEntry;
 use std::alloc::{AllocError, Global};
 use std::test::Fail;
-use tree_model::Path;
+use tree_model::{Path, Renaming};
 
 // A tree whose every call is done, but for want of memory before one of them.
 #[derive(Drop)]
@@ -50,7 +50,7 @@ fn logs_each_call_but_one_without_memory(rt: HostRuntime) -> Result<(), Fail> {
     let ops = vec![in alloc;
         Op::Mkdir(Path::root(alloc)),
         Op::Stat(Path::root(alloc)),
-        Op::Rename(Path::root(alloc), Path::root(alloc)),
+        Op::Rename(Renaming::between(Path::root(alloc), &Path::root(alloc))?),
     ]?;
     let mut tree = DoneTree {
         log: Vec::new(alloc),

@@ -5,7 +5,7 @@ use Rattle.std.specs.Fmt.{digits}
 use Rattle.hex.specs.Hex.{encode_with}
 use Rattle.packet_model.specs.declared.cause.BadCause.{BadCause}
 use Rattle.packet_model.specs.declared.cause.BadCause.TheVariants.{Short, Marker, WrongKey, ShortData}
-use Rattle.content_model.specs.declared.content.Content.TheVariants.{Empty, Good, Bad}
+use Rattle.body_model.specs.declared.content.Content.TheVariants.{Empty, Good, Bad}
 use Rattle.show_model.specs.declared.item.ShowItem.{ShowItem}
 use Rattle.show_model.specs.declared.item.ShowWhat.{ShowWhat}
 use Rattle.show_model.specs.declared.item.ShowWhat.TheVariants.{Dir, File, Foreign}

@@ -10,7 +10,7 @@ use Rattle.tree_model.specs.Listing.{ListsTree}
 use Rattle.names_model.specs.ShownBy.{shown_of}
 use Rattle.key_model.specs.SignedKey.{SignedKey}
 use Rattle.content_model.specs.Content.{IsContent}
-use Rattle.content_model.specs.declared.content.Content.{Content}
+use Rattle.body_model.specs.declared.content.Content.{Content}
 use Rattle.job_model.specs.declared.job.Job.{Job}
 use Rattle.mount_model.specs.MountForm.{key_of, form_of_job}
 use Rattle.show_model.specs.declared.item.ShowItem.{ShowItem}

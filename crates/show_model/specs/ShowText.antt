@@ -2,8 +2,8 @@
 use Rattle.std.specs.Prelude.{ℕ, List, [], ◌∷◌, ◌++◌, length, codes}
 use Rattle.std.specs.List.{flat_map}
 use Rattle.text_model.specs.Line.{line, number, path}
-use Rattle.content_model.specs.declared.content.Content.{Content}
-use Rattle.content_model.specs.declared.content.Content.TheVariants.{Empty, Good, Bad}
+use Rattle.body_model.specs.declared.content.Content.{Content}
+use Rattle.body_model.specs.declared.content.Content.TheVariants.{Empty, Good, Bad}
 use Rattle.show_model.specs.declared.item.ShowItem.{ShowItem}
 use Rattle.show_model.specs.declared.item.ShowWhat.{ShowWhat}
 use Rattle.show_model.specs.declared.item.ShowWhat.TheVariants.{Dir, File, Foreign}

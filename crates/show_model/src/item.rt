@@ -1,4 +1,4 @@
-use content_model::Content;
+use body_model::Content;
 use lower_model::Items;
 use tree_model::Path;
 

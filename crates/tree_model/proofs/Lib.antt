@@ -1,5 +1,6 @@
 pub mod NameLemmas
 pub mod PathLemmas
+pub mod RenamingLemmas
 pub mod DirListingLemmas
 pub mod PathValues
 pub mod Searches

@@ -13,11 +13,11 @@ step_0 : step (record { limit = 4; places = Dir (record { shown = ((codes "b"), 
 step_0 = refl
 
 -- rename err notdir
-step_1 : step (record { limit = 4; places = Dir (record { shown = ((codes "a"), 2) ∷ []; foreign = record { lower = (codes "#"); node = 1; blocks = None } ∷ record { lower = (codes "~b"); node = 4; blocks = Some (codes "b") } ∷ [] }) ∷ Nothing ∷ File ∷ Nothing ∷ Nothing ∷ [] }) (calls.Rename ((codes "a") ∷ (codes "c") ∷ []) ((codes "a") ∷ [])) ≡ record { reply = replies.Refused refusals.NotDir; tree = record { limit = 4; places = Dir (record { shown = ((codes "a"), 2) ∷ []; foreign = record { lower = (codes "#"); node = 1; blocks = None } ∷ record { lower = (codes "~b"); node = 4; blocks = Some (codes "b") } ∷ [] }) ∷ Nothing ∷ File ∷ Nothing ∷ Nothing ∷ [] } }
+step_1 : step (record { limit = 4; places = Dir (record { shown = ((codes "a"), 2) ∷ []; foreign = record { lower = (codes "#"); node = 1; blocks = None } ∷ record { lower = (codes "~b"); node = 4; blocks = Some (codes "b") } ∷ [] }) ∷ Nothing ∷ File ∷ Nothing ∷ Nothing ∷ [] }) (calls.Rename (record { old = (codes "a") ∷ (codes "c") ∷ []; new = (codes "a") ∷ [] })) ≡ record { reply = replies.Refused refusals.NotDir; tree = record { limit = 4; places = Dir (record { shown = ((codes "a"), 2) ∷ []; foreign = record { lower = (codes "#"); node = 1; blocks = None } ∷ record { lower = (codes "~b"); node = 4; blocks = Some (codes "b") } ∷ [] }) ∷ Nothing ∷ File ∷ Nothing ∷ Nothing ∷ [] } }
 step_1 = refl
 
 -- rename err notdir
-step_2 : step (record { limit = 4; places = Dir (record { shown = ((codes "a"), 1) ∷ ((codes "c"), 3) ∷ []; foreign = [] }) ∷ Dir (record { shown = ((codes "a"), 2) ∷ []; foreign = [] }) ∷ File ∷ Dir (record { shown = ((codes "a"), 5) ∷ ((codes "b"), 9) ∷ ((codes "c"), 10) ∷ []; foreign = record { lower = (codes "#"); node = 4; blocks = None } ∷ [] }) ∷ Nothing ∷ Dir (record { shown = ((codes "c"), 8) ∷ []; foreign = record { lower = (codes "~b"); node = 7; blocks = Some (codes "b") } ∷ [] }) ∷ Nothing ∷ Nothing ∷ File ∷ File ∷ Dir (record { shown = ((codes "a"), 13) ∷ ((codes "b"), 12) ∷ []; foreign = record { lower = (codes "#"); node = 11; blocks = None } ∷ [] }) ∷ Nothing ∷ File ∷ File ∷ [] }) (calls.Rename ((codes "c") ∷ (codes "c") ∷ (codes "b") ∷ []) ((codes "c") ∷ (codes "c") ∷ (codes "b") ∷ (codes "c") ∷ [])) ≡ record { reply = replies.Refused refusals.NotDir; tree = record { limit = 4; places = Dir (record { shown = ((codes "a"), 1) ∷ ((codes "c"), 3) ∷ []; foreign = [] }) ∷ Dir (record { shown = ((codes "a"), 2) ∷ []; foreign = [] }) ∷ File ∷ Dir (record { shown = ((codes "a"), 5) ∷ ((codes "b"), 9) ∷ ((codes "c"), 10) ∷ []; foreign = record { lower = (codes "#"); node = 4; blocks = None } ∷ [] }) ∷ Nothing ∷ Dir (record { shown = ((codes "c"), 8) ∷ []; foreign = record { lower = (codes "~b"); node = 7; blocks = Some (codes "b") } ∷ [] }) ∷ Nothing ∷ Nothing ∷ File ∷ File ∷ Dir (record { shown = ((codes "a"), 13) ∷ ((codes "b"), 12) ∷ []; foreign = record { lower = (codes "#"); node = 11; blocks = None } ∷ [] }) ∷ Nothing ∷ File ∷ File ∷ [] } }
+step_2 : step (record { limit = 4; places = Dir (record { shown = ((codes "a"), 1) ∷ ((codes "c"), 3) ∷ []; foreign = [] }) ∷ Dir (record { shown = ((codes "a"), 2) ∷ []; foreign = [] }) ∷ File ∷ Dir (record { shown = ((codes "a"), 5) ∷ ((codes "b"), 9) ∷ ((codes "c"), 10) ∷ []; foreign = record { lower = (codes "#"); node = 4; blocks = None } ∷ [] }) ∷ Nothing ∷ Dir (record { shown = ((codes "c"), 8) ∷ []; foreign = record { lower = (codes "~b"); node = 7; blocks = Some (codes "b") } ∷ [] }) ∷ Nothing ∷ Nothing ∷ File ∷ File ∷ Dir (record { shown = ((codes "a"), 13) ∷ ((codes "b"), 12) ∷ []; foreign = record { lower = (codes "#"); node = 11; blocks = None } ∷ [] }) ∷ Nothing ∷ File ∷ File ∷ [] }) (calls.Rename (record { old = (codes "c") ∷ (codes "c") ∷ (codes "b") ∷ []; new = (codes "c") ∷ (codes "c") ∷ (codes "b") ∷ (codes "c") ∷ [] })) ≡ record { reply = replies.Refused refusals.NotDir; tree = record { limit = 4; places = Dir (record { shown = ((codes "a"), 1) ∷ ((codes "c"), 3) ∷ []; foreign = [] }) ∷ Dir (record { shown = ((codes "a"), 2) ∷ []; foreign = [] }) ∷ File ∷ Dir (record { shown = ((codes "a"), 5) ∷ ((codes "b"), 9) ∷ ((codes "c"), 10) ∷ []; foreign = record { lower = (codes "#"); node = 4; blocks = None } ∷ [] }) ∷ Nothing ∷ Dir (record { shown = ((codes "c"), 8) ∷ []; foreign = record { lower = (codes "~b"); node = 7; blocks = Some (codes "b") } ∷ [] }) ∷ Nothing ∷ Nothing ∷ File ∷ File ∷ Dir (record { shown = ((codes "a"), 13) ∷ ((codes "b"), 12) ∷ []; foreign = record { lower = (codes "#"); node = 11; blocks = None } ∷ [] }) ∷ Nothing ∷ File ∷ File ∷ [] } }
 step_2 = refl
 
 -- unlink done
@@ -41,7 +41,7 @@ step_7 : step (record { limit = 4; places = Dir (record { shown = ((codes "a"), 
 step_7 = refl
 
 -- rename err notfound
-step_8 : step (record { limit = 4; places = Dir (record { shown = ((codes "c"), 2) ∷ []; foreign = record { lower = (codes "~b"); node = 3; blocks = Some (codes "b") } ∷ [] }) ∷ Nothing ∷ File ∷ Nothing ∷ [] }) (calls.Rename ((codes "b") ∷ []) ((codes "a") ∷ [])) ≡ record { reply = replies.Refused refusals.NotFound; tree = record { limit = 4; places = Dir (record { shown = ((codes "c"), 2) ∷ []; foreign = record { lower = (codes "~b"); node = 3; blocks = Some (codes "b") } ∷ [] }) ∷ Nothing ∷ File ∷ Nothing ∷ [] } }
+step_8 : step (record { limit = 4; places = Dir (record { shown = ((codes "c"), 2) ∷ []; foreign = record { lower = (codes "~b"); node = 3; blocks = Some (codes "b") } ∷ [] }) ∷ Nothing ∷ File ∷ Nothing ∷ [] }) (calls.Rename (record { old = (codes "b") ∷ []; new = (codes "a") ∷ [] })) ≡ record { reply = replies.Refused refusals.NotFound; tree = record { limit = 4; places = Dir (record { shown = ((codes "c"), 2) ∷ []; foreign = record { lower = (codes "~b"); node = 3; blocks = Some (codes "b") } ∷ [] }) ∷ Nothing ∷ File ∷ Nothing ∷ [] } }
 step_8 = refl
 
 -- resolve node
@@ -49,15 +49,15 @@ step_9 : step (record { limit = 4; places = Dir (record { shown = ((codes "a"), 
 step_9 = refl
 
 -- rename err notfound
-step_10 : step (record { limit = 4; places = Dir (record { shown = ((codes "a"), 1) ∷ ((codes "b"), 2) ∷ []; foreign = [] }) ∷ File ∷ File ∷ [] }) (calls.Rename ((codes "d") ∷ []) ((codes "b") ∷ [])) ≡ record { reply = replies.Refused refusals.NotFound; tree = record { limit = 4; places = Dir (record { shown = ((codes "a"), 1) ∷ ((codes "b"), 2) ∷ []; foreign = [] }) ∷ File ∷ File ∷ [] } }
+step_10 : step (record { limit = 4; places = Dir (record { shown = ((codes "a"), 1) ∷ ((codes "b"), 2) ∷ []; foreign = [] }) ∷ File ∷ File ∷ [] }) (calls.Rename (record { old = (codes "d") ∷ []; new = (codes "b") ∷ [] })) ≡ record { reply = replies.Refused refusals.NotFound; tree = record { limit = 4; places = Dir (record { shown = ((codes "a"), 1) ∷ ((codes "b"), 2) ∷ []; foreign = [] }) ∷ File ∷ File ∷ [] } }
 step_10 = refl
 
 -- rename done
-step_11 : step (record { limit = 4; places = Dir (record { shown = ((codes "a"), 2) ∷ ((codes "b"), 3) ∷ ((codes "c"), 4) ∷ []; foreign = record { lower = (codes "#"); node = 1; blocks = None } ∷ [] }) ∷ Nothing ∷ Dir (record { shown = []; foreign = [] }) ∷ File ∷ Dir (record { shown = ((codes "a"), 9) ∷ ((codes "b"), 10) ∷ []; foreign = record { lower = (codes "#"); node = 5; blocks = None } ∷ [] }) ∷ Nothing ∷ Nothing ∷ Nothing ∷ Nothing ∷ File ∷ Dir (record { shown = ((codes "a"), 12) ∷ ((codes "c"), 13) ∷ []; foreign = record { lower = (codes "#"); node = 11; blocks = None } ∷ [] }) ∷ Nothing ∷ File ∷ File ∷ [] }) (calls.Rename ((codes "c") ∷ (codes "a") ∷ []) ((codes "c") ∷ (codes "b") ∷ (codes "c") ∷ [])) ≡ record { reply = replies.Done; tree = record { limit = 4; places = Dir (record { shown = ((codes "a"), 2) ∷ ((codes "b"), 3) ∷ ((codes "c"), 4) ∷ []; foreign = record { lower = (codes "#"); node = 1; blocks = None } ∷ [] }) ∷ Nothing ∷ Dir (record { shown = []; foreign = [] }) ∷ File ∷ Dir (record { shown = ((codes "b"), 10) ∷ []; foreign = record { lower = (codes "#"); node = 5; blocks = None } ∷ [] }) ∷ Nothing ∷ Nothing ∷ Nothing ∷ Nothing ∷ File ∷ Dir (record { shown = ((codes "a"), 12) ∷ ((codes "c"), 9) ∷ []; foreign = record { lower = (codes "#"); node = 11; blocks = None } ∷ [] }) ∷ Nothing ∷ File ∷ Nothing ∷ [] } }
+step_11 : step (record { limit = 4; places = Dir (record { shown = ((codes "a"), 2) ∷ ((codes "b"), 3) ∷ ((codes "c"), 4) ∷ []; foreign = record { lower = (codes "#"); node = 1; blocks = None } ∷ [] }) ∷ Nothing ∷ Dir (record { shown = []; foreign = [] }) ∷ File ∷ Dir (record { shown = ((codes "a"), 9) ∷ ((codes "b"), 10) ∷ []; foreign = record { lower = (codes "#"); node = 5; blocks = None } ∷ [] }) ∷ Nothing ∷ Nothing ∷ Nothing ∷ Nothing ∷ File ∷ Dir (record { shown = ((codes "a"), 12) ∷ ((codes "c"), 13) ∷ []; foreign = record { lower = (codes "#"); node = 11; blocks = None } ∷ [] }) ∷ Nothing ∷ File ∷ File ∷ [] }) (calls.Rename (record { old = (codes "c") ∷ (codes "a") ∷ []; new = (codes "c") ∷ (codes "b") ∷ (codes "c") ∷ [] })) ≡ record { reply = replies.Done; tree = record { limit = 4; places = Dir (record { shown = ((codes "a"), 2) ∷ ((codes "b"), 3) ∷ ((codes "c"), 4) ∷ []; foreign = record { lower = (codes "#"); node = 1; blocks = None } ∷ [] }) ∷ Nothing ∷ Dir (record { shown = []; foreign = [] }) ∷ File ∷ Dir (record { shown = ((codes "b"), 10) ∷ []; foreign = record { lower = (codes "#"); node = 5; blocks = None } ∷ [] }) ∷ Nothing ∷ Nothing ∷ Nothing ∷ Nothing ∷ File ∷ Dir (record { shown = ((codes "a"), 12) ∷ ((codes "c"), 9) ∷ []; foreign = record { lower = (codes "#"); node = 11; blocks = None } ∷ [] }) ∷ Nothing ∷ File ∷ Nothing ∷ [] } }
 step_11 = refl
 
 -- rename err inside
-step_12 : step (record { limit = 4; places = Dir (record { shown = ((codes "b"), 1) ∷ ((codes "c"), 7) ∷ []; foreign = [] }) ∷ Dir (record { shown = ((codes "a"), 2) ∷ ((codes "c"), 5) ∷ []; foreign = [] }) ∷ Dir (record { shown = ((codes "a"), 3) ∷ ((codes "c"), 4) ∷ []; foreign = [] }) ∷ File ∷ File ∷ Dir (record { shown = ((codes "b"), 6) ∷ []; foreign = [] }) ∷ File ∷ File ∷ [] }) (calls.Rename ((codes "b") ∷ (codes "c") ∷ []) ((codes "b") ∷ (codes "c") ∷ (codes "d") ∷ [])) ≡ record { reply = replies.Refused refusals.Inside; tree = record { limit = 4; places = Dir (record { shown = ((codes "b"), 1) ∷ ((codes "c"), 7) ∷ []; foreign = [] }) ∷ Dir (record { shown = ((codes "a"), 2) ∷ ((codes "c"), 5) ∷ []; foreign = [] }) ∷ Dir (record { shown = ((codes "a"), 3) ∷ ((codes "c"), 4) ∷ []; foreign = [] }) ∷ File ∷ File ∷ Dir (record { shown = ((codes "b"), 6) ∷ []; foreign = [] }) ∷ File ∷ File ∷ [] } }
+step_12 : step (record { limit = 4; places = Dir (record { shown = ((codes "b"), 1) ∷ ((codes "c"), 7) ∷ []; foreign = [] }) ∷ Dir (record { shown = ((codes "a"), 2) ∷ ((codes "c"), 5) ∷ []; foreign = [] }) ∷ Dir (record { shown = ((codes "a"), 3) ∷ ((codes "c"), 4) ∷ []; foreign = [] }) ∷ File ∷ File ∷ Dir (record { shown = ((codes "b"), 6) ∷ []; foreign = [] }) ∷ File ∷ File ∷ [] }) (calls.Rename (record { old = (codes "b") ∷ (codes "c") ∷ []; new = (codes "b") ∷ (codes "c") ∷ (codes "d") ∷ [] })) ≡ record { reply = replies.Refused refusals.Inside; tree = record { limit = 4; places = Dir (record { shown = ((codes "b"), 1) ∷ ((codes "c"), 7) ∷ []; foreign = [] }) ∷ Dir (record { shown = ((codes "a"), 2) ∷ ((codes "c"), 5) ∷ []; foreign = [] }) ∷ Dir (record { shown = ((codes "a"), 3) ∷ ((codes "c"), 4) ∷ []; foreign = [] }) ∷ File ∷ File ∷ Dir (record { shown = ((codes "b"), 6) ∷ []; foreign = [] }) ∷ File ∷ File ∷ [] } }
 step_12 = refl
 
 -- mkdir done
@@ -69,11 +69,11 @@ step_14 : step (record { limit = 4; places = Dir (record { shown = ((codes "a"),
 step_14 = refl
 
 -- rename done
-step_15 : step (record { limit = 4; places = Dir (record { shown = ((codes "a"), 1) ∷ []; foreign = record { lower = (codes "~a"); node = 5; blocks = Some (codes "a") } ∷ [] }) ∷ Dir (record { shown = ((codes "a"), 3) ∷ ((codes "b"), 2) ∷ []; foreign = [] }) ∷ File ∷ Dir (record { shown = ((codes "a"), 4) ∷ []; foreign = [] }) ∷ File ∷ Nothing ∷ [] }) (calls.Rename ((codes "a") ∷ []) ((codes "a") ∷ [])) ≡ record { reply = replies.Done; tree = record { limit = 4; places = Dir (record { shown = ((codes "a"), 1) ∷ []; foreign = record { lower = (codes "~a"); node = 5; blocks = Some (codes "a") } ∷ [] }) ∷ Dir (record { shown = ((codes "a"), 3) ∷ ((codes "b"), 2) ∷ []; foreign = [] }) ∷ File ∷ Dir (record { shown = ((codes "a"), 4) ∷ []; foreign = [] }) ∷ File ∷ Nothing ∷ [] } }
+step_15 : step (record { limit = 4; places = Dir (record { shown = ((codes "a"), 1) ∷ []; foreign = record { lower = (codes "~a"); node = 5; blocks = Some (codes "a") } ∷ [] }) ∷ Dir (record { shown = ((codes "a"), 3) ∷ ((codes "b"), 2) ∷ []; foreign = [] }) ∷ File ∷ Dir (record { shown = ((codes "a"), 4) ∷ []; foreign = [] }) ∷ File ∷ Nothing ∷ [] }) (calls.Rename (record { old = (codes "a") ∷ []; new = (codes "a") ∷ [] })) ≡ record { reply = replies.Done; tree = record { limit = 4; places = Dir (record { shown = ((codes "a"), 1) ∷ []; foreign = record { lower = (codes "~a"); node = 5; blocks = Some (codes "a") } ∷ [] }) ∷ Dir (record { shown = ((codes "a"), 3) ∷ ((codes "b"), 2) ∷ []; foreign = [] }) ∷ File ∷ Dir (record { shown = ((codes "a"), 4) ∷ []; foreign = [] }) ∷ File ∷ Nothing ∷ [] } }
 step_15 = refl
 
 -- rename err isdir
-step_16 : step (record { limit = 4; places = Dir (record { shown = ((codes "b"), 1) ∷ ((codes "c"), 4) ∷ []; foreign = [] }) ∷ Dir (record { shown = ((codes "c"), 2) ∷ []; foreign = [] }) ∷ Dir (record { shown = ((codes "a"), 3) ∷ []; foreign = [] }) ∷ File ∷ Dir (record { shown = []; foreign = [] }) ∷ [] }) (calls.Rename ((codes "b") ∷ (codes "c") ∷ (codes "a") ∷ []) ((codes "c") ∷ [])) ≡ record { reply = replies.Refused refusals.IsDir; tree = record { limit = 4; places = Dir (record { shown = ((codes "b"), 1) ∷ ((codes "c"), 4) ∷ []; foreign = [] }) ∷ Dir (record { shown = ((codes "c"), 2) ∷ []; foreign = [] }) ∷ Dir (record { shown = ((codes "a"), 3) ∷ []; foreign = [] }) ∷ File ∷ Dir (record { shown = []; foreign = [] }) ∷ [] } }
+step_16 : step (record { limit = 4; places = Dir (record { shown = ((codes "b"), 1) ∷ ((codes "c"), 4) ∷ []; foreign = [] }) ∷ Dir (record { shown = ((codes "c"), 2) ∷ []; foreign = [] }) ∷ Dir (record { shown = ((codes "a"), 3) ∷ []; foreign = [] }) ∷ File ∷ Dir (record { shown = []; foreign = [] }) ∷ [] }) (calls.Rename (record { old = (codes "b") ∷ (codes "c") ∷ (codes "a") ∷ []; new = (codes "c") ∷ [] })) ≡ record { reply = replies.Refused refusals.IsDir; tree = record { limit = 4; places = Dir (record { shown = ((codes "b"), 1) ∷ ((codes "c"), 4) ∷ []; foreign = [] }) ∷ Dir (record { shown = ((codes "c"), 2) ∷ []; foreign = [] }) ∷ Dir (record { shown = ((codes "a"), 3) ∷ []; foreign = [] }) ∷ File ∷ Dir (record { shown = []; foreign = [] }) ∷ [] } }
 step_16 = refl
 
 -- stat err notdir
@@ -81,7 +81,7 @@ step_17 : step (record { limit = 4; places = Dir (record { shown = ((codes "b"),
 step_17 = refl
 
 -- rename err isdir
-step_18 : step (record { limit = 4; places = Dir (record { shown = ((codes "b"), 2) ∷ ((codes "c"), 1) ∷ []; foreign = [] }) ∷ File ∷ Dir (record { shown = []; foreign = [] }) ∷ [] }) (calls.Rename ((codes "c") ∷ []) ((codes "b") ∷ [])) ≡ record { reply = replies.Refused refusals.IsDir; tree = record { limit = 4; places = Dir (record { shown = ((codes "b"), 2) ∷ ((codes "c"), 1) ∷ []; foreign = [] }) ∷ File ∷ Dir (record { shown = []; foreign = [] }) ∷ [] } }
+step_18 : step (record { limit = 4; places = Dir (record { shown = ((codes "b"), 2) ∷ ((codes "c"), 1) ∷ []; foreign = [] }) ∷ File ∷ Dir (record { shown = []; foreign = [] }) ∷ [] }) (calls.Rename (record { old = (codes "c") ∷ []; new = (codes "b") ∷ [] })) ≡ record { reply = replies.Refused refusals.IsDir; tree = record { limit = 4; places = Dir (record { shown = ((codes "b"), 2) ∷ ((codes "c"), 1) ∷ []; foreign = [] }) ∷ File ∷ Dir (record { shown = []; foreign = [] }) ∷ [] } }
 step_18 = refl
 
 -- resolve err isdir
@@ -89,7 +89,7 @@ step_19 : step (record { limit = 4; places = Dir (record { shown = ((codes "c"),
 step_19 = refl
 
 -- rename err isroot
-step_20 : step (record { limit = 4; places = Dir (record { shown = ((codes "a"), 5) ∷ ((codes "c"), 2) ∷ []; foreign = record { lower = (codes "#"); node = 1; blocks = None } ∷ record { lower = (codes "~c"); node = 6; blocks = Some (codes "c") } ∷ [] }) ∷ Nothing ∷ Dir (record { shown = ((codes "a"), 4) ∷ []; foreign = record { lower = (codes "#"); node = 3; blocks = None } ∷ [] }) ∷ Nothing ∷ Dir (record { shown = []; foreign = [] }) ∷ File ∷ Nothing ∷ [] }) (calls.Rename ([]) ((codes "c") ∷ [])) ≡ record { reply = replies.Refused refusals.IsRoot; tree = record { limit = 4; places = Dir (record { shown = ((codes "a"), 5) ∷ ((codes "c"), 2) ∷ []; foreign = record { lower = (codes "#"); node = 1; blocks = None } ∷ record { lower = (codes "~c"); node = 6; blocks = Some (codes "c") } ∷ [] }) ∷ Nothing ∷ Dir (record { shown = ((codes "a"), 4) ∷ []; foreign = record { lower = (codes "#"); node = 3; blocks = None } ∷ [] }) ∷ Nothing ∷ Dir (record { shown = []; foreign = [] }) ∷ File ∷ Nothing ∷ [] } }
+step_20 : step (record { limit = 4; places = Dir (record { shown = ((codes "a"), 5) ∷ ((codes "c"), 2) ∷ []; foreign = record { lower = (codes "#"); node = 1; blocks = None } ∷ record { lower = (codes "~c"); node = 6; blocks = Some (codes "c") } ∷ [] }) ∷ Nothing ∷ Dir (record { shown = ((codes "a"), 4) ∷ []; foreign = record { lower = (codes "#"); node = 3; blocks = None } ∷ [] }) ∷ Nothing ∷ Dir (record { shown = []; foreign = [] }) ∷ File ∷ Nothing ∷ [] }) (calls.Rename (record { old = []; new = (codes "c") ∷ [] })) ≡ record { reply = replies.Refused refusals.IsRoot; tree = record { limit = 4; places = Dir (record { shown = ((codes "a"), 5) ∷ ((codes "c"), 2) ∷ []; foreign = record { lower = (codes "#"); node = 1; blocks = None } ∷ record { lower = (codes "~c"); node = 6; blocks = Some (codes "c") } ∷ [] }) ∷ Nothing ∷ Dir (record { shown = ((codes "a"), 4) ∷ []; foreign = record { lower = (codes "#"); node = 3; blocks = None } ∷ [] }) ∷ Nothing ∷ Dir (record { shown = []; foreign = [] }) ∷ File ∷ Nothing ∷ [] } }
 step_20 = refl
 
 -- mkdir err exists
@@ -101,7 +101,7 @@ step_22 : step (record { limit = 4; places = Dir (record { shown = ((codes "b"),
 step_22 = refl
 
 -- rename err isroot
-step_23 : step (record { limit = 4; places = Dir (record { shown = []; foreign = record { lower = (codes "~b"); node = 2; blocks = Some (codes "b") } ∷ [] }) ∷ Nothing ∷ Nothing ∷ [] }) (calls.Rename ([]) ((codes "c") ∷ [])) ≡ record { reply = replies.Refused refusals.IsRoot; tree = record { limit = 4; places = Dir (record { shown = []; foreign = record { lower = (codes "~b"); node = 2; blocks = Some (codes "b") } ∷ [] }) ∷ Nothing ∷ Nothing ∷ [] } }
+step_23 : step (record { limit = 4; places = Dir (record { shown = []; foreign = record { lower = (codes "~b"); node = 2; blocks = Some (codes "b") } ∷ [] }) ∷ Nothing ∷ Nothing ∷ [] }) (calls.Rename (record { old = []; new = (codes "c") ∷ [] })) ≡ record { reply = replies.Refused refusals.IsRoot; tree = record { limit = 4; places = Dir (record { shown = []; foreign = record { lower = (codes "~b"); node = 2; blocks = Some (codes "b") } ∷ [] }) ∷ Nothing ∷ Nothing ∷ [] } }
 step_23 = refl
 
 -- mkdir err isroot
@@ -113,11 +113,11 @@ step_25 : step (record { limit = 4; places = Dir (record { shown = ((codes "a"),
 step_25 = refl
 
 -- rename err notempty
-step_26 : step (record { limit = 4; places = Dir (record { shown = ((codes "a"), 3) ∷ ((codes "c"), 1) ∷ []; foreign = [] }) ∷ Dir (record { shown = ((codes "a"), 2) ∷ []; foreign = [] }) ∷ File ∷ Dir (record { shown = ((codes "a"), 4) ∷ ((codes "c"), 6) ∷ []; foreign = record { lower = (codes "~a"); node = 7; blocks = Some (codes "a") } ∷ [] }) ∷ Dir (record { shown = []; foreign = record { lower = (codes "#"); node = 5; blocks = None } ∷ [] }) ∷ Nothing ∷ Dir (record { shown = []; foreign = [] }) ∷ Nothing ∷ Nothing ∷ Nothing ∷ Nothing ∷ [] }) (calls.Rename ((codes "a") ∷ (codes "c") ∷ []) ((codes "a") ∷ (codes "a") ∷ [])) ≡ record { reply = replies.Refused refusals.NotEmpty; tree = record { limit = 4; places = Dir (record { shown = ((codes "a"), 3) ∷ ((codes "c"), 1) ∷ []; foreign = [] }) ∷ Dir (record { shown = ((codes "a"), 2) ∷ []; foreign = [] }) ∷ File ∷ Dir (record { shown = ((codes "a"), 4) ∷ ((codes "c"), 6) ∷ []; foreign = record { lower = (codes "~a"); node = 7; blocks = Some (codes "a") } ∷ [] }) ∷ Dir (record { shown = []; foreign = record { lower = (codes "#"); node = 5; blocks = None } ∷ [] }) ∷ Nothing ∷ Dir (record { shown = []; foreign = [] }) ∷ Nothing ∷ Nothing ∷ Nothing ∷ Nothing ∷ [] } }
+step_26 : step (record { limit = 4; places = Dir (record { shown = ((codes "a"), 3) ∷ ((codes "c"), 1) ∷ []; foreign = [] }) ∷ Dir (record { shown = ((codes "a"), 2) ∷ []; foreign = [] }) ∷ File ∷ Dir (record { shown = ((codes "a"), 4) ∷ ((codes "c"), 6) ∷ []; foreign = record { lower = (codes "~a"); node = 7; blocks = Some (codes "a") } ∷ [] }) ∷ Dir (record { shown = []; foreign = record { lower = (codes "#"); node = 5; blocks = None } ∷ [] }) ∷ Nothing ∷ Dir (record { shown = []; foreign = [] }) ∷ Nothing ∷ Nothing ∷ Nothing ∷ Nothing ∷ [] }) (calls.Rename (record { old = (codes "a") ∷ (codes "c") ∷ []; new = (codes "a") ∷ (codes "a") ∷ [] })) ≡ record { reply = replies.Refused refusals.NotEmpty; tree = record { limit = 4; places = Dir (record { shown = ((codes "a"), 3) ∷ ((codes "c"), 1) ∷ []; foreign = [] }) ∷ Dir (record { shown = ((codes "a"), 2) ∷ []; foreign = [] }) ∷ File ∷ Dir (record { shown = ((codes "a"), 4) ∷ ((codes "c"), 6) ∷ []; foreign = record { lower = (codes "~a"); node = 7; blocks = Some (codes "a") } ∷ [] }) ∷ Dir (record { shown = []; foreign = record { lower = (codes "#"); node = 5; blocks = None } ∷ [] }) ∷ Nothing ∷ Dir (record { shown = []; foreign = [] }) ∷ Nothing ∷ Nothing ∷ Nothing ∷ Nothing ∷ [] } }
 step_26 = refl
 
 -- rename err inside
-step_27 : step (record { limit = 4; places = Dir (record { shown = ((codes "b"), 2) ∷ []; foreign = record { lower = (codes "#"); node = 1; blocks = None } ∷ [] }) ∷ Nothing ∷ Dir (record { shown = ((codes "a"), 4) ∷ []; foreign = record { lower = (codes "#"); node = 3; blocks = None } ∷ [] }) ∷ Nothing ∷ File ∷ [] }) (calls.Rename ((codes "b") ∷ []) ((codes "b") ∷ (codes "b") ∷ [])) ≡ record { reply = replies.Refused refusals.Inside; tree = record { limit = 4; places = Dir (record { shown = ((codes "b"), 2) ∷ []; foreign = record { lower = (codes "#"); node = 1; blocks = None } ∷ [] }) ∷ Nothing ∷ Dir (record { shown = ((codes "a"), 4) ∷ []; foreign = record { lower = (codes "#"); node = 3; blocks = None } ∷ [] }) ∷ Nothing ∷ File ∷ [] } }
+step_27 : step (record { limit = 4; places = Dir (record { shown = ((codes "b"), 2) ∷ []; foreign = record { lower = (codes "#"); node = 1; blocks = None } ∷ [] }) ∷ Nothing ∷ Dir (record { shown = ((codes "a"), 4) ∷ []; foreign = record { lower = (codes "#"); node = 3; blocks = None } ∷ [] }) ∷ Nothing ∷ File ∷ [] }) (calls.Rename (record { old = (codes "b") ∷ []; new = (codes "b") ∷ (codes "b") ∷ [] })) ≡ record { reply = replies.Refused refusals.Inside; tree = record { limit = 4; places = Dir (record { shown = ((codes "b"), 2) ∷ []; foreign = record { lower = (codes "#"); node = 1; blocks = None } ∷ [] }) ∷ Nothing ∷ Dir (record { shown = ((codes "a"), 4) ∷ []; foreign = record { lower = (codes "#"); node = 3; blocks = None } ∷ [] }) ∷ Nothing ∷ File ∷ [] } }
 step_27 = refl
 
 -- rmdir err notempty
@@ -133,7 +133,7 @@ step_30 : step (record { limit = 4; places = Dir (record { shown = ((codes "b"),
 step_30 = refl
 
 -- rename err exists
-step_31 : step (record { limit = 4; places = Dir (record { shown = ((codes "b"), 19) ∷ []; foreign = record { lower = (codes "#"); node = 1; blocks = None } ∷ record { lower = (codes "~a"); node = 10; blocks = Some (codes "a") } ∷ [] }) ∷ Nothing ∷ Nothing ∷ Nothing ∷ Nothing ∷ Nothing ∷ Nothing ∷ Nothing ∷ Nothing ∷ Nothing ∷ Nothing ∷ Nothing ∷ Nothing ∷ Nothing ∷ Nothing ∷ Nothing ∷ Nothing ∷ Nothing ∷ Nothing ∷ Dir (record { shown = []; foreign = record { lower = (codes "#"); node = 20; blocks = None } ∷ [] }) ∷ Nothing ∷ [] }) (calls.Rename ((codes "b") ∷ []) ((codes "a") ∷ [])) ≡ record { reply = replies.Refused refusals.Exists; tree = record { limit = 4; places = Dir (record { shown = ((codes "b"), 19) ∷ []; foreign = record { lower = (codes "#"); node = 1; blocks = None } ∷ record { lower = (codes "~a"); node = 10; blocks = Some (codes "a") } ∷ [] }) ∷ Nothing ∷ Nothing ∷ Nothing ∷ Nothing ∷ Nothing ∷ Nothing ∷ Nothing ∷ Nothing ∷ Nothing ∷ Nothing ∷ Nothing ∷ Nothing ∷ Nothing ∷ Nothing ∷ Nothing ∷ Nothing ∷ Nothing ∷ Nothing ∷ Dir (record { shown = []; foreign = record { lower = (codes "#"); node = 20; blocks = None } ∷ [] }) ∷ Nothing ∷ [] } }
+step_31 : step (record { limit = 4; places = Dir (record { shown = ((codes "b"), 19) ∷ []; foreign = record { lower = (codes "#"); node = 1; blocks = None } ∷ record { lower = (codes "~a"); node = 10; blocks = Some (codes "a") } ∷ [] }) ∷ Nothing ∷ Nothing ∷ Nothing ∷ Nothing ∷ Nothing ∷ Nothing ∷ Nothing ∷ Nothing ∷ Nothing ∷ Nothing ∷ Nothing ∷ Nothing ∷ Nothing ∷ Nothing ∷ Nothing ∷ Nothing ∷ Nothing ∷ Nothing ∷ Dir (record { shown = []; foreign = record { lower = (codes "#"); node = 20; blocks = None } ∷ [] }) ∷ Nothing ∷ [] }) (calls.Rename (record { old = (codes "b") ∷ []; new = (codes "a") ∷ [] })) ≡ record { reply = replies.Refused refusals.Exists; tree = record { limit = 4; places = Dir (record { shown = ((codes "b"), 19) ∷ []; foreign = record { lower = (codes "#"); node = 1; blocks = None } ∷ record { lower = (codes "~a"); node = 10; blocks = Some (codes "a") } ∷ [] }) ∷ Nothing ∷ Nothing ∷ Nothing ∷ Nothing ∷ Nothing ∷ Nothing ∷ Nothing ∷ Nothing ∷ Nothing ∷ Nothing ∷ Nothing ∷ Nothing ∷ Nothing ∷ Nothing ∷ Nothing ∷ Nothing ∷ Nothing ∷ Nothing ∷ Dir (record { shown = []; foreign = record { lower = (codes "#"); node = 20; blocks = None } ∷ [] }) ∷ Nothing ∷ [] } }
 step_31 = refl
 
 -- list names
@@ -165,11 +165,11 @@ step_38 : step (record { limit = 4; places = Dir (record { shown = ((codes "a"),
 step_38 = refl
 
 -- rename err namelong
-step_39 : step (record { limit = 4; places = Dir (record { shown = ((codes "a"), 1) ∷ ((codes "b"), 10) ∷ ((codes "c"), 2) ∷ []; foreign = [] }) ∷ File ∷ Dir (record { shown = ((codes "a"), 3) ∷ ((codes "b"), 4) ∷ ((codes "c"), 5) ∷ []; foreign = [] }) ∷ File ∷ Dir (record { shown = []; foreign = [] }) ∷ Dir (record { shown = ((codes "a"), 6) ∷ ((codes "b"), 7) ∷ ((codes "c"), 9) ∷ []; foreign = record { lower = (codes "~a"); node = 8; blocks = Some (codes "a") } ∷ [] }) ∷ File ∷ File ∷ Nothing ∷ File ∷ Dir (record { shown = ((codes "a"), 16) ∷ ((codes "b"), 12) ∷ ((codes "c"), 15) ∷ []; foreign = record { lower = (codes "#"); node = 11; blocks = None } ∷ [] }) ∷ Nothing ∷ Dir (record { shown = ((codes "b"), 14) ∷ []; foreign = record { lower = (codes "#"); node = 13; blocks = None } ∷ [] }) ∷ Nothing ∷ File ∷ File ∷ Dir (record { shown = ((codes "a"), 17) ∷ ((codes "b"), 18) ∷ []; foreign = [] }) ∷ File ∷ File ∷ [] }) (calls.Rename ([]) ((codes "c") ∷ (codes "a") ∷ (codes "abcde") ∷ [])) ≡ record { reply = replies.Refused refusals.NameLong; tree = record { limit = 4; places = Dir (record { shown = ((codes "a"), 1) ∷ ((codes "b"), 10) ∷ ((codes "c"), 2) ∷ []; foreign = [] }) ∷ File ∷ Dir (record { shown = ((codes "a"), 3) ∷ ((codes "b"), 4) ∷ ((codes "c"), 5) ∷ []; foreign = [] }) ∷ File ∷ Dir (record { shown = []; foreign = [] }) ∷ Dir (record { shown = ((codes "a"), 6) ∷ ((codes "b"), 7) ∷ ((codes "c"), 9) ∷ []; foreign = record { lower = (codes "~a"); node = 8; blocks = Some (codes "a") } ∷ [] }) ∷ File ∷ File ∷ Nothing ∷ File ∷ Dir (record { shown = ((codes "a"), 16) ∷ ((codes "b"), 12) ∷ ((codes "c"), 15) ∷ []; foreign = record { lower = (codes "#"); node = 11; blocks = None } ∷ [] }) ∷ Nothing ∷ Dir (record { shown = ((codes "b"), 14) ∷ []; foreign = record { lower = (codes "#"); node = 13; blocks = None } ∷ [] }) ∷ Nothing ∷ File ∷ File ∷ Dir (record { shown = ((codes "a"), 17) ∷ ((codes "b"), 18) ∷ []; foreign = [] }) ∷ File ∷ File ∷ [] } }
+step_39 : step (record { limit = 4; places = Dir (record { shown = ((codes "a"), 1) ∷ ((codes "b"), 10) ∷ ((codes "c"), 2) ∷ []; foreign = [] }) ∷ File ∷ Dir (record { shown = ((codes "a"), 3) ∷ ((codes "b"), 4) ∷ ((codes "c"), 5) ∷ []; foreign = [] }) ∷ File ∷ Dir (record { shown = []; foreign = [] }) ∷ Dir (record { shown = ((codes "a"), 6) ∷ ((codes "b"), 7) ∷ ((codes "c"), 9) ∷ []; foreign = record { lower = (codes "~a"); node = 8; blocks = Some (codes "a") } ∷ [] }) ∷ File ∷ File ∷ Nothing ∷ File ∷ Dir (record { shown = ((codes "a"), 16) ∷ ((codes "b"), 12) ∷ ((codes "c"), 15) ∷ []; foreign = record { lower = (codes "#"); node = 11; blocks = None } ∷ [] }) ∷ Nothing ∷ Dir (record { shown = ((codes "b"), 14) ∷ []; foreign = record { lower = (codes "#"); node = 13; blocks = None } ∷ [] }) ∷ Nothing ∷ File ∷ File ∷ Dir (record { shown = ((codes "a"), 17) ∷ ((codes "b"), 18) ∷ []; foreign = [] }) ∷ File ∷ File ∷ [] }) (calls.Rename (record { old = []; new = (codes "c") ∷ (codes "a") ∷ (codes "abcde") ∷ [] })) ≡ record { reply = replies.Refused refusals.NameLong; tree = record { limit = 4; places = Dir (record { shown = ((codes "a"), 1) ∷ ((codes "b"), 10) ∷ ((codes "c"), 2) ∷ []; foreign = [] }) ∷ File ∷ Dir (record { shown = ((codes "a"), 3) ∷ ((codes "b"), 4) ∷ ((codes "c"), 5) ∷ []; foreign = [] }) ∷ File ∷ Dir (record { shown = []; foreign = [] }) ∷ Dir (record { shown = ((codes "a"), 6) ∷ ((codes "b"), 7) ∷ ((codes "c"), 9) ∷ []; foreign = record { lower = (codes "~a"); node = 8; blocks = Some (codes "a") } ∷ [] }) ∷ File ∷ File ∷ Nothing ∷ File ∷ Dir (record { shown = ((codes "a"), 16) ∷ ((codes "b"), 12) ∷ ((codes "c"), 15) ∷ []; foreign = record { lower = (codes "#"); node = 11; blocks = None } ∷ [] }) ∷ Nothing ∷ Dir (record { shown = ((codes "b"), 14) ∷ []; foreign = record { lower = (codes "#"); node = 13; blocks = None } ∷ [] }) ∷ Nothing ∷ File ∷ File ∷ Dir (record { shown = ((codes "a"), 17) ∷ ((codes "b"), 18) ∷ []; foreign = [] }) ∷ File ∷ File ∷ [] } }
 step_39 = refl
 
 -- rename err namelong
-step_40 : step (record { limit = 4; places = Dir (record { shown = ((codes "b"), 1) ∷ ((codes "c"), 2) ∷ []; foreign = [] }) ∷ File ∷ File ∷ [] }) (calls.Rename ([]) ((codes "abcde") ∷ [])) ≡ record { reply = replies.Refused refusals.NameLong; tree = record { limit = 4; places = Dir (record { shown = ((codes "b"), 1) ∷ ((codes "c"), 2) ∷ []; foreign = [] }) ∷ File ∷ File ∷ [] } }
+step_40 : step (record { limit = 4; places = Dir (record { shown = ((codes "b"), 1) ∷ ((codes "c"), 2) ∷ []; foreign = [] }) ∷ File ∷ File ∷ [] }) (calls.Rename (record { old = []; new = (codes "abcde") ∷ [] })) ≡ record { reply = replies.Refused refusals.NameLong; tree = record { limit = 4; places = Dir (record { shown = ((codes "b"), 1) ∷ ((codes "c"), 2) ∷ []; foreign = [] }) ∷ File ∷ File ∷ [] } }
 step_40 = refl
 
 -- rmdir done

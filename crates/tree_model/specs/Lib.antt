@@ -1,5 +1,6 @@
 pub mod Names
 pub mod Path
+pub mod Renaming
 pub mod DirListing
 pub mod Walk
 pub mod PlainTree

@@ -211,14 +211,14 @@ fits_name places to name node target =
     unless (is_none target && is_blocked_at (slice_get places to) name) Exists >>= λ u. unless (is_file (slice_get places node) && is_dir (place_there places target)) IsDir
 
 -- then, for a new place: a directory doesn't go below itself, and goes onto empty ones alone.
-abbrev pub fits_place : List Place → ℕ → List (List ℕ) → Option ℕ → Result (Unit {0}) TreeRefusal
-fits_place places node parents target =
-    unless (is_dir (slice_get places node) && comes_by places node 0 parents) Inside >>= λ u. unless (not (is_bare (place_there places target))) NotEmpty
+abbrev pub fits_place : List Place → ℕ → Bool → Option ℕ → Result (Unit {0}) TreeRefusal
+fits_place places node below target =
+    unless (is_dir (slice_get places node) && below) Inside >>= λ u. unless (not (is_bare (place_there places target))) NotEmpty
 
 abbrev pub lands : List Place → List (List ℕ) → List ℕ → ℕ → List (List ℕ) → List ℕ → ℕ → Option ℕ → Tested
 lands places above was node parents name to target =
     if is_same target node then answers replies.Done else
-    (fits_place places node parents target >>= λ u. walk places 0 above >>= λ from.
+    (fits_place places node (comes_by places node 0 parents) target >>= λ u. walk places 0 above >>= λ from.
     changes (Move (record { from = from; was = was; node = node; to = to; name = name; target = target })))
 
 abbrev pub leaves : List Place → List (List ℕ) → Option (List ℕ) → ℕ → List (List ℕ) → List ℕ → ℕ → Option ℕ → Tested
@@ -262,7 +262,7 @@ tested t (calls.Create p) = make t kinds.File (front p) (last p)
 tested t (calls.Mkdir p) = make t kinds.Dir (front p) (last p)
 tested t (calls.Rmdir p) = rmdir t.places (front p) (last p)
 tested t (calls.Unlink p) = unlink t.places (front p) (last p)
-tested t (calls.Rename p q) = rename t p q
+tested t (calls.Rename paths) = rename t paths.old paths.new
 tested t (calls.List p) = names_in t.places p
 tested t (calls.Stat p) = stat t.places p
 

@@ -1,4 +1,4 @@
-use crate::{DirListing, Path};
+use crate::{DirListing, Path, Renaming};
 use lower_model::Kind;
 
 /// A call on the plain tree.
@@ -15,7 +15,7 @@ pub enum TreeCall {
     /// Remove a file.
     Unlink(Path),
     /// Give an entry another place.
-    Rename(Path, Path),
+    Rename(Renaming),
     /// Tell a directory's entries.
     List(Path),
     /// Tell what a path leads to.

@@ -11,6 +11,7 @@ mod name;
 mod names;
 mod path;
 mod place;
+mod renaming;
 mod spare;
 
 pub use call::{TreeCall, TreeRefusal, TreeReply};
@@ -23,4 +24,5 @@ pub use name::Name;
 pub use names::Names;
 pub use path::{Parts, Path};
 pub use place::{Directory, ForeignEntry, Place};
+pub use renaming::Renaming;
 pub use spare::Spare;

@@ -49,8 +49,8 @@ pub fn read_meta<R: Ring>(
     }
 }
 
-// The metadata in these octets, of a file with a body of `len` octets.
-fn file_meta_in<R: Ring>(
+/// The metadata in these octets, of a file with a body of `len` octets, with the causes and the want of memory of [`read_meta`].
+pub fn file_meta_in<R: Ring>(
     alloc: Global,
     octets: &[u8],
     meta_place: MetaPlace,

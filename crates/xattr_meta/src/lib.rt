@@ -7,5 +7,5 @@ mod file_meta;
 mod tests;
 
 pub use file_header::{BadCause, HeaderError, MetaPlace};
-pub use file_meta::{FileMeta, read_meta};
+pub use file_meta::{FileMeta, file_meta_in, read_meta};
 pub use packet_set::Ring;

@@ -9,7 +9,7 @@ use Rattle.octet_model.proofs.Octets.{AreOctets-from_each}
 use Rattle.packet_model.proofs.Headers.{file_takes_memory}
 use Rattle.xattr_meta.specs.declared.file_meta.FileMeta.{FileMeta}
 use Rattle.xattr_meta.specs.FileMeta.{IsFileMeta, AreFileMeta}
-use Rattle.content_model.specs.declared.content.Content.{Content}
+use Rattle.body_model.specs.declared.content.Content.{Content}
 use Rattle.content_model.specs.Content.{IsContent, IsContentBy}
 use Rattle.content_model.proofs.OneContent.{one_content}
 use Rattle.extent_file.proofs.content.decode_body.Goals as goal

@@ -11,9 +11,9 @@ spelled (first ∷ names) last = refl
 pub returns-clause-ok : goal.returns-clause-ok
 returns-clause-ok c =
     let out = c.args.out.now.items in
-    let names = c.args.directory.now in
+    let names = c.args.directory in
     let last = c.args.name.now in
-    let slash : c.push.new.self.items ≡ (out ++ flat_map slash_name names) ++ 47 ∷ [] = c.in_ok-push.ensures.items ∙ ap (λ (t : List ℕ). t ++ 47 ∷ []) (c.in_ok-put_parts.ensures.ok ∙ ap (λ (parts : List (List ℕ)). out ++ flat_map slash_name parts) c.parts.ensures.parts) in
+    let slash : c.push.new.self.items ≡ (out ++ flat_map slash_name names) ++ 47 ∷ [] = c.in_ok-push.ensures.items ∙ ap (λ (t : List ℕ). t ++ 47 ∷ []) c.in_ok-put_parts.ensures.ok in
     let all : out ++ path (names ++ last ∷ []) ≡ c.push.new.self.items ++ name last =
     ap (λ (t : List ℕ). out ++ t) (spelled names last) ∙ sym (flat_map_more slash_name out names last)
     ∙ sym (append_assoc (out ++ flat_map slash_name names) (47 ∷ []) (name last)) ∙ ap (λ (t : List ℕ). t ++ name last) (sym slash) in

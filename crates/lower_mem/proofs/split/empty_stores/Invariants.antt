@@ -1,6 +1,5 @@
-use Rattle.std.proofs.Common.{◌≡◌, replicate}
-use Rattle.lower_mem.specs.Bodies.{empty_bodies}
+use Rattle.lower_mem.proofs.Storing.{Firsts}
 use Rattle.lower_mem.proofs.split.empty_stores.Given as goal
 
-abbrev pub invariant-loop : goal.invariant-loop
-invariant-loop l = l.bodies.items ≡ replicate l.counter empty_bodies
+abbrev pub invariant-loop-number : goal.invariant-loop-number
+invariant-loop-number l = Firsts l.changes l.reads l.bodies.items l.number

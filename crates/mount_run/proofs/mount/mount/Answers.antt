@@ -1,7 +1,8 @@
 use Rattle.std.proofs.Common.{◌≡◌, ℕ, List, inr, ap, subst, sym, ◌∙◌, map}
 use Rattle.answer_model.specs.Count.{Rose}
 use Rattle.name_form.specs.FormOf.{form_of}
-use Rattle.lower_tree.specs.Held.{HeldNames, HeldBodies}
+use Rattle.lower_tree.specs.Held.{HeldNames}
+use Rattle.body_model.specs.Bodies.{HeldBodies}
 use Rattle.lower_tree.specs.Making.{sum_of_counts, faults_of}
 use Rattle.served_model.specs.declared.end.TheConstants.{NAMES_PART}
 use Rattle.served_model.specs.ReportText.{stuck_text}

@@ -6,8 +6,8 @@ use Rattle.names_model.proofs.FilesFit.{files_fit}
 use Rattle.namespace_model.specs.Carried.{IsForm, Keeps}
 use Rattle.lower_model.specs.declared.kind.Kind.TheVariants as kinds
 use Rattle.lower_model.specs.LowerTree.{HoldsOctets}
-use Rattle.names_model.specs.LowerPaths.{LowerFile}
-use Rattle.lower_tree.specs.Held.{HeldBodies}
+use Rattle.body_model.specs.LowerFile.{LowerFile}
+use Rattle.body_model.specs.Bodies.{HeldBodies}
 use Rattle.session_model.specs.declared.entry.TreeEntry.{TreeEntry}
 use Rattle.session_model.specs.Session.{Session, Member, fresh}
 use Rattle.session_run.specs.Made.{HasRun}

@@ -7,7 +7,7 @@ pub returns-clause-tell : goal.returns-clause-tell
 returns-clause-tell c = tell_all c.new-2.result c.in-Ok.bodies.items c.in-Ok.ensures.stored.count
 
 pub returns-clause-hold : goal.returns-clause-hold
-returns-clause-hold c = hold_tree c.new-2.result c.in-Ok.bodies.items c.args.tree c.in-Ok.ensures.stored c.parts_of.ensures.lawful (rw c.new-2.ensures c.in-Ok.ensures.names)
+returns-clause-hold c = hold_tree c.new-2.result c.in-Ok.bodies.items _ _ c.args.tree c.in-Ok.ensures.stored c.parts_of.ensures.lawful (rw c.new-2.ensures c.in-Ok.ensures.names)
 
 pub returns-clause-fresh : goal.returns-clause-fresh
-returns-clause-fresh c = are_fresh c.new-2.result c.in-Ok.bodies.items c.args.tree c.in-Ok.ensures.stored (ap (λ (n : NamesInMemory). n.plan.faults) c.new-2.ensures)
+returns-clause-fresh c = are_fresh c.new-2.result c.in-Ok.bodies.items _ _ c.args.tree c.in-Ok.ensures.stored (ap (λ (n : NamesInMemory). n.plan.faults) c.new-2.ensures)

@@ -1,0 +1,4 @@
+pub mod LowerFile
+pub mod Bodies
+pub mod BodyCalls
+pub mod Format

@@ -1,0 +1,15 @@
+use Rattle.std.proofs.Common.{ℕ, List, arith}
+use Rattle.octet_model.proofs.Octets.{AreOctets-from_each}
+use Rattle.content_model.proofs.Extents.{plain_extent_is}
+use Rattle.extent_file.proofs.Sealing.{under_key}
+use Rattle.extent_file.proofs.extent.seal_extent.Goals as goal
+
+pub returns-clause-sealed : goal.returns-clause-sealed
+returns-clause-sealed c =
+    let old : List ℕ = c.args.extent.now in
+    let new : List ℕ = c.cbc_encrypt.new.octets in
+    plain_extent_is c.args.key.now c.args.number old new c.are_octets.ensures (AreOctets-from_each old c.fits-extent)
+    (under_key c.args.key.now c.new.result c.root_iv.result c.extent_iv-iv.result old new c.args.number c.new.ensures c.root_iv.ensures c.extent_iv-iv.ensures c.cbc_encrypt.ensures)
+
+pub returns-clause-extent : goal.returns-clause-extent
+returns-clause-extent c = record { long = omega (arith, c.cbc_encrypt.ensures.same_length.long); octets = c.are_octets.ensures }

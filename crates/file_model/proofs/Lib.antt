@@ -1,0 +1,14 @@
+pub mod Worked
+pub mod Cleared
+pub mod Reopening
+pub mod Elsewhere
+pub mod Extents
+pub mod ByExtent
+pub mod Decoding
+pub mod Paging
+pub mod Staying
+pub mod WritingOut
+pub mod Resizing
+pub mod Overwriting
+pub mod WorkedPages
+pub mod Slots

@@ -1,0 +1,2 @@
+pub mod EightOctets
+pub mod FormatLaws
