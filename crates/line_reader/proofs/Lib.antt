@@ -6,3 +6,4 @@ pub mod Cutting
 pub mod NameReader
 pub mod FieldsInARow
 pub mod PathReader
+pub mod PlainPaths

@@ -77,7 +77,7 @@ octets_found (c ∷ high ∷ low ∷ rest) octets e =
 -- ---- what is spelled is read
 
 -- an octet that stands for itself
-plain_first : (c : ℕ) (rest : List ℕ) → is_plain c ≡ true → octets_in (c ∷ rest) ≡ put c (octets_in rest)
+pub plain_first : (c : ℕ) (rest : List ℕ) → is_plain c ≡ true → octets_in (c ∷ rest) ≡ put c (octets_in rest)
 unfolding octets_in
 plain_first c [] p = rw p refl
 plain_first c (d ∷ []) p = rw p refl

@@ -1,17 +1,12 @@
 ghost use Rattle.std.specs.Prelude.{◌≡◌, ◌<◌, [], ◌∷◌, length, IfOk, IfSome};
 ghost use Rattle.std.specs.Option.{option_map};
-ghost use Rattle.text_model.specs.Line.{name, is_plain as plain_test};
+ghost use Rattle.text_model.specs.Line.{name};
 ghost use Rattle.line_reader.specs.Fields.{Reads, IsName, IsFirstOctet, escaped_in, octets_in, name_in};
 
 use crate::read_hex_array;
 use std::alloc::{AllocError, Global};
+use text_model::is_plain;
 use tree_model::Name;
-
-fn is_plain(c: u8) -> bool
-    ensures { result ≡ plain_test c }
-{
-    b'!' <= c && c <= b'~' && !(c == b'%') && !(c == b'/')
-}
 
 // The octet that the two digits behind a percent sign spell.
 fn escaped_octet(digits: &[u8]) -> Option<u8>

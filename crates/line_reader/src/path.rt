@@ -7,6 +7,7 @@ ghost use Rattle.line_reader.specs.Fields.{Reads, name_in, each_in, path_in};
 use crate::cut_at;
 use crate::name::name_of;
 use std::alloc::{AllocError, Global};
+use text_model::are_plain;
 use tree_model::Path;
 
 fn names_of(alloc: Global, text: &[u8]) -> Result<Option<Path>, AllocError>
@@ -43,6 +44,9 @@ fn path_of(alloc: Global, text: &[u8]) -> Result<Option<Path>, AllocError>
             }
             if spelled.is_empty() {
                 return Ok(Some(Path::root(alloc)));
+            }
+            if are_plain(text) {
+                return Path::from_octets(alloc, text);
             }
             names_of(alloc, spelled)
         }

@@ -28,6 +28,19 @@ fn octets_names_and_paths(rt: HostRuntime) -> Result<(), Fail> {
     let path = read_path(rt.alloc(), b"/a/b%20c")?.ok_or("a path of two names")?;
     let (last, _) = path.parts().split_last().ok_or("a last name")?;
     assert_eq!(rt; last, b"b c".as_slice());
+    let plain = read_path(rt.alloc(), b"/a/..b/c")?.ok_or("a path of three names")?;
+    assert_eq!(rt; plain.parts().octets(), b"/a/..b/c".as_slice());
+    let root = read_path(rt.alloc(), b"/")?.ok_or("the path of the root")?;
+    assert!(rt; root.parts().is_empty());
+    for text in [
+        b"/a/../b".as_slice(),
+        b"//".as_slice(),
+        b"/a/".as_slice(),
+        b"a/b".as_slice(),
+        b"/a/./b%20c".as_slice(),
+    ] {
+        assert!(rt; read_path(rt.alloc(), text)?.is_none());
+    }
     Ok(())
 }
 

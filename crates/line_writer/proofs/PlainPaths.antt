@@ -5,9 +5,8 @@ use Rattle.std.specs.List.{list_all, flat_map}
 use Rattle.std.proofs.lemmas.Bool.{and_parts}
 use Rattle.std.proofs.lemmas.List.Folds.{list_all-append}
 use Rattle.lower_model.specs.Name.{is_name, is_name_octet}
-use Rattle.text_model.specs.Line.{is_plain, name, slash_name}
+use Rattle.text_model.specs.Line.{is_plain, is_plain_in_path, name, slash_name}
 use Rattle.tree_model.specs.Path.{IsPath, slashed}
-use Rattle.line_writer.specs.Fields.{is_plain_in_path}
 
 plain_alone : (p q : Bool) → (p || q) ≡ true → not q ≡ true → p ≡ true
 plain_alone true q e f = refl

@@ -1,17 +1,11 @@
 ghost use Rattle.std.specs.Prelude.{◌≡◌, ◌++◌, ◌∷◌, [], OnOk, OnErr};
 ghost use Rattle.octet_model.specs.Octets.{BeginsWith};
-ghost use Rattle.std.specs.List.{flat_map, list_all};
-ghost use Rattle.line_writer.specs.Fields.{is_plain_in_path};
-ghost use Rattle.text_model.specs.Line.{is_plain as plain_test, name_octet, name, slash_name, path as path_text};
+ghost use Rattle.std.specs.List.{flat_map};
+ghost use Rattle.text_model.specs.Line.{name_octet, name, slash_name, path as path_text};
 
 use std::alloc::AllocError;
+use text_model::{are_plain, is_plain};
 use tree_model::Parts;
-
-fn is_plain(c: u8) -> bool
-    ensures { result ≡ plain_test c }
-{
-    b'!' <= c && c <= b'~' && c != b'%' && c != b'/'
-}
 
 fn put_octet(out: &mut Vec<u8>, c: u8) -> Result<(), AllocError>
     ensures ok { OnOk result (out.new.items ≡ out.old.items ++ name_octet c) }
@@ -51,13 +45,6 @@ fn put_each_part(out: &mut Vec<u8>, parts: Parts<'_>) -> Result<(), AllocError>
         rest = others;
     }
     Ok(())
-}
-
-// Whether each octet stands for itself in a path.
-fn are_plain(octets: &[u8]) -> bool
-    ensures { result ≡ list_all is_plain_in_path octets.now }
-{
-    octets.iter().all(|c| is_plain(*c) || *c == b'/')
 }
 
 fn put_parts(out: &mut Vec<u8>, parts: Parts<'_>) -> Result<(), AllocError>

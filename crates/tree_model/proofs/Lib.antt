@@ -10,5 +10,6 @@ pub mod Listings
 pub mod Rising
 pub mod NodeEntries
 pub mod Standing
+pub mod FileNumbers
 mod StepsByOther
 mod NoTree

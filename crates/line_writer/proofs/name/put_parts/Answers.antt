@@ -1,7 +1,6 @@
 use Rattle.std.proofs.Common.{◌≡◌, sym, ap, ◌∙◌, rules}
 use Rattle.std.specs.List.{list_all, flat_map}
-use Rattle.text_model.specs.Line.{slash_name}
-use Rattle.line_writer.specs.Fields.{is_plain_in_path}
+use Rattle.text_model.specs.Line.{is_plain_in_path, slash_name}
 use Rattle.line_writer.proofs.PlainPaths.{path_plain}
 use Rattle.line_writer.proofs.name.put_parts.Goals as goal
 
