@@ -206,4 +206,5 @@ def main():
         bench.show("show of 4,000 names of 20 octets", [(1, f"name-of-20-octet{n:04}") for n in range(WIDE)])
 
 
-main()
+if __name__ == "__main__":
+    main()

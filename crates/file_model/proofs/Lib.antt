@@ -12,3 +12,8 @@ pub mod Resizing
 pub mod Overwriting
 pub mod WorkedPages
 pub mod Slots
+pub mod Entries
+pub mod GoingOn
+pub mod Leaving
+pub mod Limits
+pub mod Unopened

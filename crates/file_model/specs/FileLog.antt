@@ -1,12 +1,13 @@
 -- Which logs of turns byte files could have had.
-use Rattle.std.specs.Prelude.{ℕ, ◌≡◌, ◌==◌, ◌≤◌, ◌⊎◌, List, [], filter}
+use Rattle.std.specs.Prelude.{ℕ, ◌≡◌, ◌==◌, ◌%◌, ◌<◌, ◌≤◌, ◌⊎◌, List, [], length, filter, Some, slice_get}
 use Rattle.answer_model.specs.Count.{Rose}
+use Rattle.lower_tree.specs.Held.{stores}
 use Rattle.session_model.specs.declared.file.FileCall.{FileCall}
 use Rattle.session_model.specs.declared.file.FileCall.TheVariants.{Attach, Write, Truncate}
 use Rattle.session_model.specs.declared.file.FileReply.{FileReply}
 use Rattle.session_model.specs.declared.file.FileReply.TheVariants.{Refused, NotOpen, TooBig, LowerFault, Memory}
 use Rattle.session_model.specs.declared.entry.FileEntry.{FileEntry}
-use Rattle.session_model.specs.Legal.{Counts, IsLegal, CountsFrom}
+use Rattle.session_model.specs.Legal.{Counts}
 use Rattle.file_model.specs.ByteFile.{FileState, Bad, Good, step}
 
 -- the calls for which memory is taken
@@ -52,7 +53,11 @@ counts_of e = record { before = e.before; after = e.after }
 abbrev pub entries_at : ℕ → List FileEntry → List FileEntry
 entries_at node log = filter (λ e. e.node == node) log
 
--- The log of files, each of which goes from old to new by its own entries, while the count of faults goes from first to last over all of them.
-pub record IsFileLog (old : ℕ → FileState) (first : ℕ) (log : List FileEntry) (new : ℕ → FileState) (last : ℕ) : Type 0 where
-  pub legal : (node : ℕ) → IsLegal IsTurn (old node) (entries_at node log) (new node)
-  pub counts : CountsFrom counts_of first log last
+-- the entries of one shard, which has every eighth node
+abbrev pub entries_in : ℕ → List FileEntry → List FileEntry
+entries_in shard log = filter (λ e. e.node % stores == shard) log
+
+-- The logs of all shards, each of which has its entries of one log.
+pub record AreShardLogs (logs : List (List FileEntry)) (log : List FileEntry) : Type 0 where
+  pub all : length logs ≡ stores
+  pub each : (shard : ℕ) → shard < stores → slice_get logs shard ≡ Some (entries_in shard log)

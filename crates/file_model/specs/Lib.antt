@@ -4,3 +4,4 @@ pub mod LaidOut
 pub mod Shard
 pub mod Paging
 pub mod Resizing
+pub mod FilesGoOn

@@ -116,6 +116,12 @@ pub record HasFileCause (slots : List OpenSlot) (e : FileEntry) : Type 0 where
   pub not_open : (e.reply ≡ NotOpen) ↔ (is_let_in slots e.session e.call ≡ false)
   pub too_big : (e.reply ≡ TooBig) ↔ ((is_let_in slots e.session e.call ≡ true) × (MAX_SIZE < end_of e.call))
 
+-- A turn as far as it is known whether or not the store tells: it has its cause, and these slots have the file open before it and behind it.
+pub record IsCausedTurn (old : List OpenSlot) (e : FileEntry) (new : List OpenSlot) : Type 0 where
+  pub later : e.before ≤ e.after
+  pub cause : HasFileCause old e
+  pub slots : new ≡ slots_behind e.call e.reply e.session old
+
 -- The lower file alone stands for an open file's octets.
 pub record StandsAlone {K : Type 0} (format : Format K) (first : LowerFile) (node : ℕ) (file : LowerFile) (octets : List ℕ) : Type 0 where
   pub content_is : content format file ≡ contents.Good octets
@@ -163,7 +169,29 @@ abbrev pub IsOutIfOpen : {K : Type 0} → Format K → LowerFile → ℕ → Low
 IsOutIfOpen format first node file (Some w) (Good f) = StandsAlone format first node file f.octets
 IsOutIfOpen format first node file w state = Unit {0}
 
--- one that answered Ok: nothing is marked, and each lower file alone stands for its octets
+-- Of the nodes below this one nothing is marked, and the lower file of each that is open alone stands for its octets.
+pub record IsOutBelow {K : Type 0} (format : Format K) (before after : HeldBodies) (old new : Shard K) (stop : ℕ) : Type 0 where
+  pub clean : (node : ℕ) → node < stop → IsClean (new.working node)
+  pub out : before.told ≡ true → (first : ℕ → LowerFile) (node : ℕ) (state : FileState) → node < stop → Stands format first before old node state → IsOutIfOpen format (first node) node (after.files node) (new.working node) state
+
+-- one that answered Ok: no call failed, nothing is marked, and each open file's lower file alone stands for its octets
 pub record IsWholeWriteOut {K : Type 0} (format : Format K) (before after : HeldBodies) (old new : Shard K) : Type 0 where
+  pub calm : after.faults ≡ before.faults
   pub clean : (node : ℕ) → IsClean (new.working node)
   pub out : before.told ≡ true → (first : ℕ → LowerFile) (node : ℕ) (state : FileState) → Stands format first before old node state → IsOutIfOpen format (first node) node (after.files node) (new.working node) state
+
+-- One that failed, at a node with something marked: those below it are written out, and those above it are as they were.
+pub record IsCutWriteOut {K : Type 0} (format : Format K) (before after : HeldBodies) (old new : Shard K) : Type 0 where
+  pub node : ℕ
+  pub marked : IsClean (old.working node) → ⊥
+  pub below : IsOutBelow format before after old new node
+  pub above : (other : ℕ) → node < other → new.working other ≡ old.working other
+  pub files : before.told ≡ true → (other : ℕ) → node < other → after.files other ≡ before.files other
+
+-- ---- what may be left of a file
+
+-- Where the file of a node was opened, its lower file alone stands for the octets of its last state. Elsewhere it is as it was.
+abbrev pub MayBeLeft : {K : Type 0} → Format K → LowerFile → ℕ → Bool → FileState → LowerFile → Type 0
+MayBeLeft format first node true (Good f) file = StandsAlone format first node file f.octets
+MayBeLeft format first node true (Bad cause) file = ⊥
+MayBeLeft format first node false state file = file ≡ first

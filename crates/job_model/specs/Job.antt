@@ -3,7 +3,7 @@ use Rattle.std.specs.Prelude.{ℕ, ◌≡◌, ◌<◌, ◌≤◌, List, length}
 use Rattle.std.specs.List.{AllByRecursion}
 use Rattle.octet_model.specs.Octets.{AreOctets, HasOctets}
 use Rattle.lower_model.specs.LowerTree.{IsLowerTree}
-use Rattle.script_model.specs.Script.{IsScript, IsTreeScript}
+use Rattle.script_model.specs.Script.{IsScript}
 use Rattle.job_model.specs.declared.limits.TheConstants.{LONGEST_PASSPHRASE, MOST_SESSIONS, MOST_ITEMS}
 use Rattle.job_model.specs.declared.job.Job.{Job}
 
@@ -30,4 +30,3 @@ pub record IsJob (job : Job) : Type 0 where
 -- The jobs that the program serves so far, of all jobs of the format.
 pub record IsServedSoFar (job : Job) : Type 0 where
   pub one_session : length job.scripts ≡ 1
-  pub tree_calls : AllByRecursion IsTreeScript job.scripts

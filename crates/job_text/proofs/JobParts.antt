@@ -18,9 +18,8 @@ use Rattle.image_model.proofs.Image.{reading_takes, reading_again}
 use Rattle.text_model.specs.Line.{line, number, hex}
 use Rattle.script_model.specs.declared.op.Op.{Op}
 use Rattle.script_model.specs.declared.limits.TheConstants.{MOST_OPERATIONS}
-use Rattle.script_model.specs.Script.{IsOp, IsScript, IsTreeScript}
+use Rattle.script_model.specs.Script.{IsOp, IsScript}
 use Rattle.script_model.specs.ScriptText.{op_line, script_text}
-use Rattle.script_text.specs.OpReading.{IsReadOp}
 use Rattle.script_text.proofs.OpReader.{op_reader, op_no_end}
 use Rattle.job_model.specs.declared.job.NameCoding.{NameCoding}
 use Rattle.job_model.specs.declared.job.NameCoding.TheVariants.{Plain, Tag70}
@@ -39,7 +38,7 @@ use Rattle.job_text.proofs.FieldReaders.{hex_no_end, number_without, passphrase_
 
 -- ---- scripts
 
-op_part : IsPart op_at op_line IsReadOp
+op_part : IsPart op_at op_line IsOp
 unfolding op_at
 op_part = line_part op_reader op_no_end
 
@@ -77,39 +76,22 @@ counted_part {A} {at} {spell} {Fits} word least most clean small p = record { fo
         ap (counted_at word least most at) (append_assoc ((word ++ number (length values)) ++ 10 ∷ []) (flat_map spell values) rest)
         ∙ rw (l.again (length values) (flat_map spell values ++ rest) (record { least_is = h.least_is; most_is = h.most_is })) ((times_part p (length values)).again values rest (record { count_is = refl; each = h.each }))
 
--- The scripts that are read so far, of all that a job may have.
-pub record IsReadScript (script : List Op) : Type 0 where
-  pub lawful : IsScript script
-  pub on_tree : IsTreeScript script
-
-lawful_each : (ops : List Op) → AllByRecursion IsReadOp ops → AllByRecursion IsOp ops
-lawful_each [] h = tt
-lawful_each (op ∷ ops) h = (h.0.lawful, lawful_each ops h.1)
-
-on_tree_each : (ops : List Op) → AllByRecursion IsReadOp ops → IsTreeScript ops
-on_tree_each [] h = tt
-on_tree_each (op ∷ ops) h = (h.0.on_tree, on_tree_each ops h.1)
-
-read_each : (ops : List Op) → AllByRecursion IsOp ops → IsTreeScript ops → AllByRecursion IsReadOp ops
-read_each [] h k = tt
-read_each (op ∷ ops) h k = (record { lawful = h.0; on_tree = k.0 }, read_each ops h.1 k.1)
-
-script_part : IsPart script_at script_text IsReadScript
+script_part : IsPart script_at script_text IsScript
 unfolding script_at
 script_part = record { found = found; again = again }
   where
-    p : IsPart (counted_at (codes "script ") 0 MOST_OPERATIONS op_at) (counted_text (codes "script ") op_line) (AreCounted 0 MOST_OPERATIONS IsReadOp)
+    p : IsPart (counted_at (codes "script ") 0 MOST_OPERATIONS op_at) (counted_text (codes "script ") op_line) (AreCounted 0 MOST_OPERATIONS IsOp)
     p = counted_part (codes "script ") 0 MOST_OPERATIONS refl (omega arith) op_part
 
-    found : (octets : List ℕ) → IsSlice octets → (x : List Op × List ℕ) → script_at octets ≡ Ok x → (octets ≡ script_text x.0 ++ x.1) × IsReadScript x.0
+    found : (octets : List ℕ) → IsSlice octets → (x : List Op × List ℕ) → script_at octets ≡ Ok x → (octets ≡ script_text x.0 ++ x.1) × IsScript x.0
     found octets fits x e =
         let f = p.found octets fits x e in
-        (f.0, record { lawful = record { few = f.1.most_is; ops = lawful_each x.0 f.1.each }; on_tree = on_tree_each x.0 f.1.each })
+        (f.0, record { few = f.1.most_is; ops = f.1.each })
 
-    again : (ops : List Op) (rest : List ℕ) → IsReadScript ops → script_at (script_text ops ++ rest) ≡ Ok (ops, rest)
-    again ops rest h = p.again ops rest (record { least_is = omega arith; most_is = h.lawful.few; each = read_each ops h.lawful.ops h.on_tree })
+    again : (ops : List Op) (rest : List ℕ) → IsScript ops → script_at (script_text ops ++ rest) ≡ Ok (ops, rest)
+    again ops rest h = p.again ops rest (record { least_is = omega arith; most_is = h.few; each = h.ops })
 
-pub scripts_part : IsPart scripts_at (counted_text (codes "sessions ") script_text) (AreCounted 1 MOST_SESSIONS IsReadScript)
+pub scripts_part : IsPart scripts_at (counted_text (codes "sessions ") script_text) (AreCounted 1 MOST_SESSIONS IsScript)
 unfolding scripts_at
 scripts_part = counted_part (codes "sessions ") 1 MOST_SESSIONS refl (omega arith) script_part
 

@@ -1,7 +1,7 @@
 -- A whole job: what is read is a job that is spelled so, and what is spelled so is read.
 use Rattle.std.proofs.Common.{◌≡◌, ℕ, ◌<◌, ◌≤◌, ◌^◌, true, false, List, [], ◌∷◌, ◌++◌, length, get_or, map, codes, Result, Ok, Err, refl, sym, ap, subst, ◌∙◌, append_assoc, arith}
 use Rattle.std.specs.Prelude.{◌==◌}
-use Rattle.std.specs.List.{flat_map, AllByRecursion}
+use Rattle.std.specs.List.{flat_map}
 use Rattle.std.proofs.lemmas.Bool.{eqb-true}
 use Rattle.std.proofs.lemmas.List.{nil_from_length, length-append}
 use Rattle.octet_model.proofs.Octets.{AreOctets-from_each}
@@ -10,7 +10,7 @@ use Rattle.job_model.specs.declared.limits.TheConstants.{MOST_OCTETS, MOST_SESSI
 use Rattle.image_model.specs.ImageText.{image}
 use Rattle.text_model.specs.Line.{line, number, hex}
 use Rattle.script_model.specs.declared.op.Op.{Op}
-use Rattle.script_model.specs.Script.{IsScript, IsTreeScript}
+use Rattle.script_model.specs.Script.{IsScript}
 use Rattle.script_model.specs.ScriptText.{script_text}
 use Rattle.job_model.specs.declared.job.Job.{Job}
 use Rattle.job_model.specs.Job.{IsJob, IsSchedule, IsServedSoFar}
@@ -19,7 +19,7 @@ use Rattle.job_text.specs.declared.settings.Keys.{Keys}
 use Rattle.job_text.specs.declared.settings.Making.{Making}
 use Rattle.job_text.specs.JobReading.{whole_at, keys_at, making_at, image_at, scripts_at, schedule_at, end_at, Work, work_at, job_of, job_at, is_served_so_far}
 use Rattle.job_text.proofs.LineParts.{IsSlice, IsSlice-rest, ended, whole_found, whole_again}
-use Rattle.job_text.proofs.JobParts.{IsImage, image_part, AreCounted, counted_text, IsReadScript, scripts_part, schedule_part, AreKeys, keys_text, keys_part, IsMaking, making_text, making_part, joined, apart}
+use Rattle.job_text.proofs.JobParts.{IsImage, image_part, AreCounted, counted_text, scripts_part, schedule_part, AreKeys, keys_text, keys_part, IsMaking, making_text, making_part, joined, apart}
 
 -- ---- what stands behind the settings
 
@@ -36,7 +36,7 @@ end_again = rw (whole_again (codes "end") [] refl) refl
 
 record IsWork (work : Work) : Type 0 where
   image : IsImage work.0
-  scripts : AreCounted 1 MOST_SESSIONS IsReadScript work.1
+  scripts : AreCounted 1 MOST_SESSIONS IsScript work.1
   schedule : IsSchedule (length work.1) work.2
 
 abbrev schedule_line : List ℕ → List ℕ
@@ -100,40 +100,20 @@ regrouped job =
 spelled_as : (job : Job) (octets : List ℕ) → octets ≡ head ++ (keys_text (keys_in job) ++ (making_text (making_in job) ++ work_text (work_in job))) → octets ≡ job_text job
 spelled_as job octets e = e ∙ sym (regrouped job)
 
-lawful_each : (scripts : List (List Op)) → AllByRecursion IsReadScript scripts → AllByRecursion IsScript scripts
-lawful_each [] h = tt
-lawful_each (script ∷ scripts) h = (h.0.lawful, lawful_each scripts h.1)
-
-on_tree_each : (scripts : List (List Op)) → AllByRecursion IsReadScript scripts → AllByRecursion IsTreeScript scripts
-on_tree_each [] h = tt
-on_tree_each (script ∷ scripts) h = (h.0.on_tree, on_tree_each scripts h.1)
-
-read_each : (scripts : List (List Op)) → AllByRecursion IsScript scripts → AllByRecursion IsTreeScript scripts → AllByRecursion IsReadScript scripts
-read_each [] h k = tt
-read_each (script ∷ scripts) h k = (record { lawful = h.0; on_tree = k.0 }, read_each scripts h.1 k.1)
-
--- The jobs that are read so far, of all jobs of the format.
-pub record IsReadJob (job : Job) : Type 0 where
-  pub lawful : IsJob job
-  pub on_tree : AllByRecursion IsTreeScript job.scripts
-
-job_from : (keys : Keys) (making : Making) (work : Work) → AreKeys keys → IsMaking making → IsWork work → IsReadJob (job_of keys making work.0 work.1 work.2)
+job_from : (keys : Keys) (making : Making) (work : Work) → AreKeys keys → IsMaking making → IsWork work → IsJob (job_of keys making work.0 work.1 work.2)
 job_from keys making work k m w = record {
-  lawful = record {
-    passphrase = k.passphrase;
-    salt = k.salt;
-    namesalt = k.namesalt;
-    random = m;
-    image = w.image.tree;
-    some_session = w.scripts.least_is;
-    few_sessions = w.scripts.most_is;
-    scripts = lawful_each work.1 w.scripts.each;
-    schedule = w.schedule;
-  };
-  on_tree = on_tree_each work.1 w.scripts.each;
+  passphrase = k.passphrase;
+  salt = k.salt;
+  namesalt = k.namesalt;
+  random = m;
+  image = w.image.tree;
+  some_session = w.scripts.least_is;
+  few_sessions = w.scripts.most_is;
+  scripts = w.scripts.each;
+  schedule = w.schedule;
 }
 
-pub job_found : (octets : List ℕ) (job : Job) → IsSlice octets → job_at octets ≡ Ok job → IsReadJob job × (octets ≡ job_text job)
+pub job_found : (octets : List ℕ) (job : Job) → IsSlice octets → job_at octets ≡ Ok job → IsJob job × (octets ≡ job_text job)
 unfolding job_at
 job_found octets job fits e =
     let h = bind_ok (whole_at (codes "ecryptfs-job 1") octets) _ job e in
@@ -149,24 +129,22 @@ job_found octets job fits e =
     let made = job_of k.0.0 m.0.0 w.0.0 w.0.1 w.0.2 in
     let parts : octets ≡ head ++ (keys_text k.0.0 ++ (making_text m.0.0 ++ work_text w.0)) =
     first ∙ ap (λ (t : List ℕ). head ++ t) (f.0 ∙ ap (λ (t : List ℕ). keys_text k.0.0 ++ t) (g.0 ∙ ap (λ (t : List ℕ). making_text m.0.0 ++ t) i.0)) in
-    subst (λ (j : Job). IsReadJob j × (octets ≡ job_text j)) {x = made} (ok_is made job w.2) (job_from k.0.0 m.0.0 w.0 f.1 g.1 i.1, spelled_as made octets parts)
+    subst (λ (j : Job). IsJob j × (octets ≡ job_text j)) {x = made} (ok_is made job w.2) (job_from k.0.0 m.0.0 w.0 f.1 g.1 i.1, spelled_as made octets parts)
 
-pub job_again : (job : Job) → IsReadJob job → length (image job.image) < 2 ^ 64 → job_at (job_text job) ≡ Ok job
+pub job_again : (job : Job) → IsJob job → length (image job.image) < 2 ^ 64 → job_at (job_text job) ≡ Ok job
 unfolding job_at
-job_again job is_read small =
-    let j : IsJob job = is_read.lawful in
-    let keys : AreKeys (keys_in job) = record { passphrase = j.passphrase; salt = j.salt; namesalt = j.namesalt } in
-    let work : IsWork (work_in job) = record { image = record { tree = j.image; small = small }; scripts = record { least_is = j.some_session; most_is = j.few_sessions; each = read_each job.scripts j.scripts is_read.on_tree }; schedule = j.schedule } in
+job_again job lawful small =
+    let keys : AreKeys (keys_in job) = record { passphrase = lawful.passphrase; salt = lawful.salt; namesalt = lawful.namesalt } in
+    let work : IsWork (work_in job) = record { image = record { tree = lawful.image; small = small }; scripts = record { least_is = lawful.some_session; most_is = lawful.few_sessions; each = lawful.scripts }; schedule = lawful.schedule } in
     let w = work_text (work_in job) in
     let m = making_text (making_in job) in
     ap job_at (regrouped job)
-    ∙ rw (whole_again (codes "ecryptfs-job 1") (keys_text (keys_in job) ++ (m ++ w)) refl, keys_part.again (keys_in job) (m ++ w) keys, making_part.again (making_in job) w j.random, work_again (work_in job) work) refl
+    ∙ rw (whole_again (codes "ecryptfs-job 1") (keys_text (keys_in job) ++ (m ++ w)) refl, keys_part.again (keys_in job) (m ++ w) keys, making_part.again (making_in job) w lawful.random, work_again (work_in job) work) refl
 
 -- ---- what is served so far
 
-served : (job : Job) → AllByRecursion IsTreeScript job.scripts → is_served_so_far job ≡ true → IsServedSoFar job
-served job on_tree e =
-    record { one_session = eqb-true (length job.scripts) 1 e; tree_calls = on_tree }
+served : (job : Job) → is_served_so_far job ≡ true → IsServedSoFar job
+served job e = record { one_session = eqb-true (length job.scripts) 1 e }
 
 serves : (job : Job) → IsServedSoFar job → is_served_so_far job ≡ true
 serves job h = rw h.one_session refl
@@ -187,10 +165,10 @@ image_small job octets t =
 pub is_job_text : (octets : List ℕ) (job : Job) → ((i : ℕ) → get_or octets i 0 < 256) → length octets ≤ MOST_OCTETS → job_at octets ≡ Ok job → is_served_so_far job ≡ true → IsJobText job octets
 is_job_text octets job each short e test =
     let f = job_found octets job (record { octets = AreOctets-from_each octets each; short = omega (arith, short) }) e in
-    record { lawful = f.0.lawful; served_so_far = served job f.0.on_tree test; short = short; text = f.1 }
+    record { lawful = f.0; served_so_far = served job test; short = short; text = f.1 }
 
 text_read : (octets : List ℕ) (job : Job) → IsJobText job octets → job_at octets ≡ Ok job
-text_read octets job t = ap job_at t.text ∙ job_again job (record { lawful = t.lawful; on_tree = t.served_so_far.tree_calls }) (image_small job octets t)
+text_read octets job t = ap job_at t.text ∙ job_again job t.lawful (image_small job octets t)
 
 -- a text has one job
 pub one_job : (octets : List ℕ) (job other : Job) → job_at octets ≡ Ok job → IsJobText other octets → job ≡ other

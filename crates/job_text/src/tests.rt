@@ -9,7 +9,7 @@ const HEAD: &[u8] =
 
 const IMAGE: &[u8] = b"image 25\nECRYIMG1\0\0\0\x01\0\x01\x01\x01f\0\0\0\0\x03abc\n";
 
-const WORK: &[u8] = b"sessions 1\nscript 2\nmkdir /a\nlist /\nschedule 0 0\nend\n";
+const WORK: &[u8] = b"sessions 1\nscript 3\nmkdir /a\nlist /\nsync 15\nschedule 0 0\nend\n";
 
 fn job_of(alloc: Global, parts: [&[u8]; 3]) -> Result<Result<Job, JobError>, AllocError> {
     let mut text = Vec::new(alloc);
@@ -33,9 +33,10 @@ fn reads_a_job(rt: HostRuntime) -> Result<(), Fail> {
     assert_eq!(rt; job.schedule.as_slice(), [0, 0].as_slice());
     assert_eq!(rt; job.scripts.len(), 1);
     let script = job.scripts.as_slice()[0].as_slice();
-    assert_eq!(rt; script.len(), 2);
+    assert_eq!(rt; script.len(), 3);
     assert!(rt; matches!(&script[0], Op::Mkdir(_)));
     assert!(rt; matches!(&script[1], Op::List(_)));
+    assert!(rt; matches!(&script[2], Op::Sync(15)));
     Ok(())
 }
 
@@ -48,7 +49,7 @@ fn refuses_a_wrong_line(rt: HostRuntime) -> Result<(), Fail> {
         [
             HEAD,
             IMAGE,
-            b"sessions 1\nscript 1\nsync 0\nschedule\nend\n".as_slice(),
+            b"sessions 1\nscript 1\nsync 16\nschedule\nend\n".as_slice(),
         ],
     ] {
         let answer = job_of(rt.alloc(), parts)?;

@@ -9,19 +9,18 @@ use Rattle.session_model.specs.declared.file.FileCall.TheVariants.{Attach, Read,
 use Rattle.session_model.specs.declared.file.FileReply.{FileReply}
 use Rattle.session_model.specs.declared.file.FileReply.TheVariants.{Done, Octets, Length, Refused, NotOpen, TooBig, LowerFault, Memory}
 use Rattle.session_model.proofs.Joins.{get_set_other, get_set_same}
-use Rattle.body_model.specs.LowerFile.{IsOfOctets}
 use Rattle.body_model.specs.Bodies.{HeldBodies}
 use Rattle.body_model.specs.Format.{Format}
 use Rattle.file_model.specs.ByteFile.{is_attached, slot_of}
 use Rattle.file_model.specs.FileLog.{IsAttach}
 use Rattle.file_model.specs.Shard.{IsReplyTo, IsShardStep, StandsBy, opens, was_opened}
-use Rattle.file_model.proofs.Elsewhere.{stands_on}
 use Rattle.file_model.proofs.Slots.{was_opened-push}
 use Rattle.lower_inode.specs.declared.node.OpenNode.{OpenNode}
 use Rattle.lower_inode.specs.Shards.{HasRoomFor, IsReplyIn, ShardOver, flat, node_in, slots_at, shard_of, working_at}
-use Rattle.lower_inode.specs.NodeTurn.{AreNodes, IsNode, IsNodeTurn, entry_of}
+use Rattle.lower_inode.specs.NodeTurn.{IsNode, IsNodeTurn, entry_of}
 use Rattle.lower_inode.proofs.Refusals.{IsOfSlot, or_false, refused_not_open}
 use Rattle.lower_inode.proofs.Attaching.{no_calls, turn_attach_no_memory}
+use Rattle.lower_inode.proofs.Others.{octets_on, other_stands}
 
 -- ---- the table
 
@@ -147,16 +146,12 @@ shard_step {B} {F} {K} format before after old new session op node call reply t 
       subst (λ (b : Bool). StandsBy format (first other) after other b (working_at (node_in new.index new.nodes other)) (slots_at (node_in new.index new.nodes other)) state)
       (sym (ap (was_opened other) log ∙ opened_there other old.log e (λ same. apart (sym same))))
       (subst (λ (o : Option (OpenNode K)). StandsBy format (first other) after other (was_opened other old.log) (working_at o) (slots_at o) state) (sym (others other apart))
-      (stands_on format (first other) before after other (was_opened other old.log) _ _ state
-      (record { file = t.touches.others.others told other apart; body_room = t.touches.body_room other; attribute_room = t.touches.attribute_room other }) stands));
+      (other_stands format (first other) before after node other (was_opened other old.log) _ _ state t.touches told apart stands));
   closed = λ told other was is. elim (eqb_tells other node) [
     | inl same ↦ closed_here other same.1 told was is
     | inr apart ↦ t.touches.others.others told other apart.1
   ];
-  octets = λ told other octets. elim (eqb_tells other node) [
-    | inl same ↦ octets_here other same.1 told octets
-    | inr apart ↦ subst IsOfOctets (sym (t.touches.others.others told other apart.1)) octets
-  ];
+  octets = λ told other octets. octets_on before after node other t.touches told octets;
   idle = t.idle;
   synced = t.synced;
 }
@@ -168,23 +163,6 @@ shard_step {B} {F} {K} format before after old new session op node call reply t 
     closed_here other same told was is =
         subst (λ (k : ℕ). after.files k ≡ before.files k) (sym same)
         (t.closed told (subst (λ (k : ℕ). working_at (node_in old.index old.nodes k) ≡ None) same was) (subst (λ (k : ℕ). working_at (node_in new.index new.nodes k) ≡ None) same is))
-
-    octets_here : (other : ℕ) → other ≡ node → before.told ≡ true → IsOfOctets (before.files other) → IsOfOctets (after.files other)
-    octets_here other same told octets =
-        subst (λ (k : ℕ). IsOfOctets (after.files k)) (sym same) (t.touches.others.octets told (subst (λ (k : ℕ). IsOfOctets (before.files k)) same octets))
-
--- the other open files keep their rooms
-pub nodes_on : {K : Type 0} (before after : HeldBodies) (index node : ℕ) (old new : List (Option (OpenNode K))) → AreNodes before index old → IsNode after node (node_in index new node)
-    → ((other : ℕ) → other ≢ node → node_in index new other ≡ node_in index old other) → ((other : ℕ) → before.body_room other ≤ after.body_room other) → ((other : ℕ) → before.attribute_room other ≤ after.attribute_room other)
-    → AreNodes after index new
-nodes_on {K} before after index node old new all here others body attribute other = elim (eqb_tells other node) [
-  | inl same ↦ subst (λ (k : ℕ). IsNode after k (node_in index new k)) (sym same.1) here
-  | inr apart ↦ subst (IsNode after other) (sym (others other apart.1)) (by_node (node_in index old other) (all other))
-]
-  where
-    by_node : (o : Option (OpenNode K)) → IsNode before other o → IsNode after other o
-    by_node None shape = tt
-    by_node (Some f) shape = (record { body = omega (arith, shape.0.body, body other); attribute = omega (arith, shape.0.attribute, attribute other) }, shape.1)
 
 -- the same over the tables of a shard with this index
 pub step_at : {B F K : Type 0} (format : Format K) (before after : HeldBodies) (index : ℕ) (old new : ShardOver B F K) (session op node : ℕ) (call : FileCall) (reply : FileReply)

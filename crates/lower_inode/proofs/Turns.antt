@@ -264,17 +264,17 @@ turn_truncate_memory format before after node f session slot size shape here sma
 -- ---- what writes out
 
 -- The octets stay, and the file is laid out in the new store.
-abbrev Goes : {K : Type 0} → Format K → HeldBodies → HeldBodies → ℕ → Buffered K → Buffered K → Type 0
+abbrev pub Goes : {K : Type 0} → Format K → HeldBodies → HeldBodies → ℕ → Buffered K → Buffered K → Type 0
 Goes format before after node f g = before.told ≡ true → (origin : Origin) (octets : List ℕ) → LaidOut format origin before node (working_of f) octets → LaidOut format origin after node (working_of g) octets
 
 -- The lower file alone stands for the octets.
-abbrev IsOutIfOpen : {K : Type 0} → Format K → HeldBodies → HeldBodies → ℕ → Buffered K → Buffered K → Type 0
-IsOutIfOpen format before after node f g = before.told ≡ true → (origin : Origin) (octets : List ℕ) → LaidOut format origin before node (working_of f) octets
+abbrev pub IsOut : {K : Type 0} → Format K → HeldBodies → HeldBodies → ℕ → Buffered K → Buffered K → Type 0
+IsOut format before after node f g = before.told ≡ true → (origin : Origin) (octets : List ℕ) → LaidOut format origin before node (working_of f) octets
     → (content format (after.files node) ≡ contents.Good octets) × IsWrittenOut format origin (after.files node) g.opened
 
 pub turn_sync : {K : Type 0} (format : Format K) (before after : HeldBodies) (node : ℕ) (f : OpenNode K) (g : Buffered K) (session slot : ℕ)
     → f.slots.items ≢ [] → is_attached f.slots.items session slot ≡ true → AreWrites false node before after → HasItsRoom after node g.opened
-    → Goes format before after node f.file g → IsOutIfOpen format before after node f.file g → IsUnmarked (working_of g) → (IsUnmarked (working_of f.file) → after.calls ≡ before.calls)
+    → Goes format before after node f.file g → IsOut format before after node f.file g → IsUnmarked (working_of g) → (IsUnmarked (working_of f.file) → after.calls ≡ before.calls)
     → IsNodeTurn format before after node (Some f) (Some (with_file f g)) session (Sync slot) Done
 turn_sync format before after node f g session slot some here writes room goes out unmarked idle = record {
   touches = touches_writes false node before after writes;
@@ -339,7 +339,7 @@ turn_detach_one format held node f g session slot shape here others same left = 
 -- The last slot: the file is written out, and no longer open.
 pub turn_detach_last : {K : Type 0} (format : Format K) (before after : HeldBodies) (node : ℕ) (f : OpenNode K) (g : Buffered K) (session slot : ℕ)
     → is_attached f.slots.items session slot ≡ true → list_any (λ open_slot. not (is_open_slot session slot open_slot)) f.slots.items ≡ false
-    → AreWrites false node before after → IsOutIfOpen format before after node f.file g → IsNodeTurn format before after node (Some f) None session (Detach slot) Done
+    → AreWrites false node before after → IsOut format before after node f.file g → IsNodeTurn format before after node (Some f) None session (Detach slot) Done
 turn_detach_last format before after node f g session slot here none writes out = record {
   touches = touches_writes false node before after writes;
   shape = tt;

@@ -1,5 +1,5 @@
 -- What contracts see of a shard.
-use Rattle.std.specs.Prelude.{ℕ, ◌≤◌, ◌==◌, ◌/◌, ◌%◌, List, [], length, Option, Some, None, slice_get, if◌then◌else◌}
+use Rattle.std.specs.Prelude.{ℕ, ◌+◌, ◌*◌, ◌≤◌, ◌==◌, ◌/◌, ◌%◌, List, [], length, Option, Some, None, slice_get, if◌then◌else◌}
 use Rattle.lower_tree.specs.Held.{stores}
 use Rattle.session_model.specs.declared.file.FileCall.{FileCall}
 use Rattle.session_model.specs.declared.file.FileCall.TheVariants.{Read}
@@ -36,8 +36,16 @@ flat None = None
 abbrev pub node_in : {K : Type 0} → ℕ → List (Option (OpenNode K)) → ℕ → Option (OpenNode K)
 node_in index nodes node = if node % stores == index then flat (slice_get nodes (node / stores)) else None
 
+-- a shard by its log, its index and its open files
+abbrev pub shard_with : {K : Type 0} → List FileEntry → ℕ → List (Option (OpenNode K)) → Shard K
+shard_with log index nodes = record { log = log; working = λ node. working_at (node_in index nodes node); slots = λ node. slots_at (node_in index nodes node) }
+
 abbrev pub shard_of : {B F K : Type 0} → ShardOver B F K → Shard K
-shard_of shard = record { log = shard.log; working = λ node. working_at (node_in shard.index shard.nodes node); slots = λ node. slots_at (node_in shard.index shard.nodes node) }
+shard_of shard = shard_with shard.log shard.index shard.nodes
+
+-- the node of this shard with this place in the table of its open files
+abbrev pub node_of : ℕ → ℕ → ℕ
+node_of index place = stores * place + index
 
 -- the room that a call takes
 abbrev pub HasRoomFor : FileCall → ℕ → Type 0

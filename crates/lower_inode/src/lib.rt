@@ -5,6 +5,7 @@ mod node;
 mod room;
 mod shard;
 mod table;
+mod writing;
 
 pub use room::ReadRoom;
-pub use shard::Shard;
+pub use shard::{Shard, WriteOutFault};

@@ -1,19 +1,28 @@
-ghost use Rattle.std.specs.Prelude.{◌≡◌, ◌<◌, ◌≤◌, ◌%◌, ℕ, [], None, length, take};
+ghost use Rattle.std.specs.Prelude.{◌≡◌, ◌<◌, ◌≤◌, ◌%◌, ℕ, [], IfErr, None, OnErr, OnOk, length, take};
+ghost use Rattle.answer_model.specs.Count.{Rose};
 ghost use Rattle.lower_tree.specs.Held.{stores};
 ghost use Rattle.session_model.specs.FileCall.{IsFileCall};
 ghost use Rattle.body_model.specs.Format.{content};
-ghost use Rattle.file_model.specs.Shard.{IsShardStep, Stands, state_by};
+ghost use Rattle.file_model.specs.Shard.{IsCutWriteOut, IsShardStep, IsWholeWriteOut, IsWriteOut, Stands, state_by};
 ghost use Rattle.lower_inode.specs.Shards.{HasRoomFor, IsReplyIn, shard_of};
 
 use crate::node::OpenNode;
 use crate::room::ReadRoom;
 use crate::table::{end_all, turn_at};
+use crate::writing::write_nodes;
 use lower_tree::{BodyFormat, Items, LowerBodies, Steps};
 use session_model::{FileCall, FileEntry, FileReply};
 use std::alloc::Global;
 use std::marker::Model;
 use std::sync::ledger::Ledger;
 use turn_lock::{Chain, Link};
+
+/// A write-out that failed, with the store's counts of faults before and after it.
+#[derive(Clone, Copy, Debug, PartialEq, Eq)]
+pub struct WriteOutFault {
+    pub before: u64,
+    pub after: u64,
+}
 
 /// The files of every eighth node, with the log of their turns.
 pub struct Shard<B: LowerBodies, F: BodyFormat> {
@@ -25,7 +34,7 @@ pub struct Shard<B: LowerBodies, F: BodyFormat> {
 }
 
 impl<B: LowerBodies, F: BodyFormat> Model for Shard<B, F> {
-    ghost use Rattle.std.specs.Prelude.{ℕ, ◌<◌};
+    ghost use Rattle.std.specs.Prelude.{ℕ, ◌<◌, ◌≤◌, ◌^◌, length};
     ghost use Rattle.lower_tree.specs.Held.{stores};
     ghost use Rattle.lower_inode.specs.NodeTurn.{AreNodes};
     ghost use Rattle.lower_inode.specs.Shards.{ShardOver};
@@ -36,6 +45,7 @@ impl<B: LowerBodies, F: BodyFormat> Model for Shard<B, F> {
 
     ghost invariant = { λ s. record {
       index : s.index < stores;
+      few : length s.nodes.items ≤ 2 ^ 29;
       nodes : AreNodes (B.held s.bodies) s.index s.nodes.items;
     } };
 }
@@ -137,6 +147,33 @@ impl<B: LowerBodies, F: BodyFormat> Shard<B, F> {
         );
         reply
     }
+
+    /// Writes out what is marked of each open file, node by node in rising order. The first call that fails ends it: what it was to
+    /// write, and what comes behind it, stays marked. It takes no memory, and makes no call where nothing is marked.
+    pub fn write_out<L: Ledger>(&mut self, steps: &mut Steps<L>) -> Result<(), WriteOutFault>
+        ensures writes { IsWriteOut (F.rules self.old.format) (B.held self.old.bodies) (B.held self.new.bodies) (shard_of self.old) (shard_of self.new) }
+        ensures whole { OnOk result (IsWholeWriteOut (F.rules self.old.format) (B.held self.old.bodies) (B.held self.new.bodies) (shard_of self.old) (shard_of self.new)) }
+        ensures cut { OnErr result (IsCutWriteOut (F.rules self.old.format) (B.held self.old.bodies) (B.held self.new.bodies) (shard_of self.old) (shard_of self.new)) }
+        ensures fault { IfErr result (λ fault. (fault.before ≡ (B.held self.old.bodies).faults) × (fault.after ≡ (B.held self.new.bodies).faults) × Rose fault.before fault.after) }
+        ensures index { self.new.index ≡ self.old.index }
+        ensures format { self.new.format ≡ self.old.format }
+    {
+        let before = self.bodies.faults();
+        match write_nodes(
+            &mut self.bodies,
+            &self.format,
+            self.index,
+            &mut self.nodes,
+            steps,
+        ) {
+            Ok(()) => Ok(()),
+            Err(_) => Err(WriteOutFault {
+                before,
+                after: self.bodies.faults(),
+            }),
+        }
+    }
+
     /// The store, the format and the log. Every key is spent; what isn't written out is lost. It takes no memory and makes no call on
     /// the store.
     pub fn end(self) -> (B, F, Chain<FileEntry>)

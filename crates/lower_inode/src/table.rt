@@ -1,5 +1,5 @@
 // The table of the open files of a shard: that of node n at n / 8.
-ghost use Rattle.std.specs.Prelude.{◌≡◌, ◌≢◌, ◌+◌, ◌%◌, ◌/◌, ◌≤◌, ◌<◌, ◌^◌, ℕ, None, OnOk, OnErr, length, slice_get};
+ghost use Rattle.std.specs.Prelude.{◌≡◌, ◌≢◌, ◌+◌, ◌%◌, ◌/◌, ◌≤◌, ◌<◌, ℕ, None, OnOk, OnErr, length, max, slice_get};
 ghost use Rattle.lower_tree.specs.Held.{stores};
 ghost use Rattle.session_model.specs.FileCall.{IsFileCall};
 ghost use Rattle.file_model.specs.FileLog.{IsAttach};
@@ -13,7 +13,7 @@ use std::alloc::{AllocError, Global};
 use std::sync::ledger::Ledger;
 
 /// How many shards there are.
-const STORES: usize = 8;
+pub(crate) const STORES: usize = 8;
 
 /// Makes the table this long, if it is shorter, with no more open files.
 pub(crate) fn make_long<K>(
@@ -22,6 +22,7 @@ pub(crate) fn make_long<K>(
 ) -> Result<(), AllocError>
     ensures long { OnOk result (len ≤ length nodes.new.items) }
     ensures short { OnErr result (length nodes.old.items < len) }
+    ensures most { length nodes.new.items ≤ max (length nodes.old.items) len }
     ensures same { (i : ℕ) → flat (slice_get nodes.new.items i) ≡ flat (slice_get nodes.old.items i) }
 {
     while nodes.len() < len {
@@ -52,6 +53,7 @@ fn turn_there<B: LowerBodies, F: BodyFormat, L: Ledger>(
     requires room { HasRoomFor call.now (length told.items) }
     requires node { IsNode (B.held bodies.old) node (node_in (node % stores) nodes.old.items node) }
     requires place { IsAttach call.now → node / stores < length nodes.old.items }
+    ensures len { length nodes.new.items ≡ length nodes.old.items }
     ensures turn { IsNodeTurn (F.rules format.now) (B.held bodies.old) (B.held bodies.new) node
         (node_in (node % stores) nodes.old.items node) (node_in (node % stores) nodes.new.items node) session call.now result }
     ensures others { (other : ℕ) → other ≢ node → node_in (node % stores) nodes.new.items other ≡ node_in (node % stores) nodes.old.items other }
@@ -79,6 +81,7 @@ pub(crate) fn turn_at<B: LowerBodies, F: BodyFormat, L: Ledger>(
     requires call { IsFileCall call.now }
     requires room { HasRoomFor call.now (length told.items) }
     requires node { IsNode (B.held bodies.old) node (node_in (node % stores) nodes.old.items node) }
+    ensures most { length nodes.new.items ≤ max (length nodes.old.items) (node / stores + 1) }
     ensures turn { IsNodeTurn (F.rules format.now) (B.held bodies.old) (B.held bodies.new) node
         (node_in (node % stores) nodes.old.items node) (node_in (node % stores) nodes.new.items node) session call.now result }
     ensures others { (other : ℕ) → other ≢ node → node_in (node % stores) nodes.new.items other ≡ node_in (node % stores) nodes.old.items other }

@@ -4,6 +4,7 @@
 mod bodies;
 mod error;
 mod format;
+mod lent;
 mod maker;
 mod names;
 mod steps;

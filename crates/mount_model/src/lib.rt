@@ -1,2 +1,3 @@
-//! What a job says of its mount, as definitions: the key of its passphrase under a salt, and the form of its names.
+//! What a job says of its mount, as definitions: the key of its passphrase under a salt, the form of its names, and the format of its
+//! files.
 #![tactic(auto)]

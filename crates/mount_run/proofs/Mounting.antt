@@ -5,11 +5,12 @@ use Rattle.tree_model.specs.IsTree.{IsTree}
 use Rattle.tree_model.specs.PlainTree.{PlainTree}
 use Rattle.names_model.specs.Store.{Store}
 use Rattle.names_model.specs.NameForm.{NameForm}
+use Rattle.namespace_model.specs.Carried.{Keeps}
 use Rattle.opening_model.specs.Openings.{ShowsTree}
 use Rattle.lower_tree.specs.Held.{HeldNames, HeldParts, TellAll, HoldTree}
 use Rattle.body_model.specs.Bodies.{HeldBodies}
 use Rattle.lower_tree.specs.Making.{AreFresh, AddsFaults, faults_of, sum_of_counts}
-use Rattle.served_model.specs.Served.{Maker, CountsFaults}
+use Rattle.served_model.specs.Served.{Maker, CountsFaults, names_alone}
 use Rattle.mount_run.specs.Mounted.{IsMounted, TellsImage}
 
 abbrev pub parts_of : HeldNames → List HeldBodies → HeldParts
@@ -21,6 +22,7 @@ pub record AreOpened (form : NameForm) (old new : HeldNames) (tree : PlainTree) 
   pub told : new.told ≡ old.told
   pub stays : old.told ≡ true → (k : ℕ) → new.entries k ≡ old.entries k
   pub shows : old.told ≡ true → ShowsTree form old.entries tree kept
+  pub keeps : old.told ≡ true → Keeps form tree.places kept new.entries
   pub is_tree : IsTree tree.places
   pub limit : tree.limit ≡ form.longest
 
@@ -44,6 +46,7 @@ module _ (form : NameForm) (maker : Maker) (image : List LowerNode) (old new : H
         tell = record { names = opened.told ∙ tell.names; bodies = tell.bodies };
         hold = record { lawful = hold.lawful; entries = λ k. opened.stays tell.names k ∙ hold.entries k; files = hold.files };
         shows = subst (λ (s : Store). ShowsTree form s tree kept) same (opened.shows tell.names);
+        keeps = opened.keeps tell.names;
       }
 
   pub mounted : IsMounted form maker image (parts_of new bodies) tree kept
@@ -55,6 +58,6 @@ module _ (form : NameForm) (maker : Maker) (image : List LowerNode) (old new : H
   }
 
 -- the names failed so often, and the stores of bodies didn't
-pub counts_names : (old new : HeldNames) (bodies : List HeldBodies) (before after : Maker) → AreFresh (parts_of old bodies) → AddsFaults (parts_of new bodies) before.tallies after.tallies → CountsFaults before after new.faults
-counts_names old new bodies before after fresh adds zero = adds 0
-counts_names old new bodies before after fresh adds (suc k) = subst (λ (n : ℕ). after.tallies (suc k) ≡ sum_of_counts (before.tallies (suc k)) n) (fresh.calm (suc k)) (adds (suc k))
+pub counts_names : (old new : HeldNames) (bodies : List HeldBodies) (before after : Maker) → AreFresh (parts_of old bodies) → AddsFaults (parts_of new bodies) before.tallies after.tallies → CountsFaults before after (names_alone new.faults)
+counts_names old new bodies before after fresh adds zero below = adds 0
+counts_names old new bodies before after fresh adds (suc k) below = subst (λ (n : ℕ). after.tallies (suc k) ≡ sum_of_counts (before.tallies (suc k)) n) (fresh.calm (suc k)) (adds (suc k))

@@ -1,13 +1,13 @@
 -- Lines of a show text, one behind another.
 use Rattle.std.proofs.Common.{◌≡◌, ℕ, List, [], ◌∷◌, ◌++◌, refl, ap, ap₂, sym, ◌∙◌}
 use Rattle.std.specs.Prelude.{slice_get}
-use Rattle.std.specs.List.{AllByRecursion, flat_map}
+use Rattle.std.specs.List.{AllByRecursion}
 use Rattle.std.proofs.lemmas.List.{append-nil, map-append, flat_map_more}
 use Rattle.lower_model.specs.declared.node.LowerNode.{LowerNode}
 use Rattle.tree_model.specs.declared.listed.Listed.{Listed}
 use Rattle.key_model.specs.SignedKey.{SignedKey}
 use Rattle.show_model.specs.declared.item.ShowItem.{ShowItem}
-use Rattle.show_model.specs.Show.{TellsNode, TellsItems, listed_item}
+use Rattle.show_model.specs.Show.{TellsNode, listed_item}
 use Rattle.show_model.specs.ShowText.{item_line}
 use Rattle.mount_run.specs.ShowLines.{AddsLines}
 

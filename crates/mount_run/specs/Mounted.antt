@@ -1,5 +1,5 @@
 -- How a lower tree is mounted, and how it is taken down again.
-use Rattle.std.specs.Prelude.{ℕ, ◌≡◌, ◌⊎◌, true, List}
+use Rattle.std.specs.Prelude.{ℕ, ◌≡◌, ◌⊎◌, true, List, Result, Ok, Err}
 use Rattle.answer_model.specs.Count.{Rose}
 use Rattle.lower_model.specs.declared.node.LowerNode.{LowerNode}
 use Rattle.lower_model.specs.LowerTree.{IsLowerTree}
@@ -7,6 +7,7 @@ use Rattle.tree_model.specs.PlainTree.{PlainTree}
 use Rattle.tree_model.specs.IsTree.{IsTree}
 use Rattle.names_model.specs.NameForm.{NameForm}
 use Rattle.names_model.specs.LowerPaths.{tree_paths}
+use Rattle.namespace_model.specs.Carried.{Keeps}
 use Rattle.opening_model.specs.Openings.{ShowsTree}
 use Rattle.lower_tree.specs.Held.{HeldParts, TellAll, HoldTree, paths_held}
 use Rattle.lower_tree.specs.Making.{AreFresh, AddsFaults}
@@ -15,6 +16,7 @@ use Rattle.served_model.specs.declared.end.ReportEnd.TheVariants.{Image, Stuck}
 use Rattle.served_model.specs.declared.end.TheConstants.{MAKER_PART}
 use Rattle.served_model.specs.ReportText.{stuck_text}
 use Rattle.served_model.specs.Served.{Maker, IsStuckAtSplit, IsStuckAtOpening}
+use Rattle.mounted_files.specs.declared.shards.StuckStore.{StuckStore}
 use Rattle.mount_run.specs.declared.mount.MountError.{MountError}
 use Rattle.mount_run.specs.declared.mount.MountError.TheVariants as errors
 use Rattle.mount_run.specs.declared.status.TheConstants.{OK, LOWER_FAULT}
@@ -25,11 +27,12 @@ pub record IsUnchanged (before after : Maker) : Type 0 where
   pub faults : after.faults ≡ before.faults
   pub tallies : (part : ℕ) → after.tallies part ≡ before.tallies part
 
--- The parts tell that they hold the tree of the image, and the plain tree over them is what the image shows under this form of names.
+-- The parts tell that they hold the tree of the image, and the plain tree over them is what the image shows under this form of names, and what they carry.
 pub record TellsImage (form : NameForm) (image : List LowerNode) (parts : HeldParts) (tree : PlainTree) (kept : List (List ℕ)) : Type 0 where
   pub tell : TellAll parts
   pub hold : HoldTree parts image
   pub shows : ShowsTree form parts.names.entries tree kept
+  pub keeps : Keeps form tree.places kept parts.names.entries
 
 -- The parts of an image are mounted: no call on them has failed, and as far as the maker tells they hold the image's tree.
 pub record IsMounted (form : NameForm) (maker : Maker) (image : List LowerNode) (parts : HeldParts) (tree : PlainTree) (kept : List (List ℕ)) : Type 0 where
@@ -60,11 +63,22 @@ abbrev pub EndsAs : Maker → Maker → HeldParts → ReportEnd → Type 0
 EndsAs before after parts (Image image) = IsUnited before after parts image
 EndsAs before after parts (Stuck part first last) = FailsToUnite before after part first last
 
--- The parts were given back to the maker, and this is the end of the report.
-pub record IsTakenDown (before after : Maker) (parts : HeldParts) (end : ReportEnd) : Type 0 where
+-- The parts were given back to the maker to be united, and this is the end of the report.
+pub record IsUnitedOrNot (before after : Maker) (parts : HeldParts) (end : ReportEnd) : Type 0 where
   pub tells : after.tells ≡ before.tells
   pub counted : AddsFaults parts before.tallies after.tallies
   pub ends : EndsAs before after parts end
+
+-- A store couldn't be written out: the parts were given back to the maker as they are, and the report ends with the store.
+pub record IsGivenBack (before after : Maker) (parts : HeldParts) (stuck : StuckStore) (end : ReportEnd) : Type 0 where
+  pub counted : AddsFaults parts before.tallies after.tallies
+  pub calm : after.faults ≡ before.faults
+  pub end_is : end ≡ Stuck stuck.part stuck.before stuck.after
+
+-- The parts were given back to the maker, behind this write-out, and this is the end of the report.
+abbrev pub IsTakenDown : Maker → Maker → HeldParts → Result (Unit {0}) StuckStore → ReportEnd → Type 0
+IsTakenDown before after parts (Ok done) end = IsUnitedOrNot before after parts end
+IsTakenDown before after parts (Err stuck) end = IsGivenBack before after parts stuck end
 
 -- the status of a report that ends so
 abbrev pub status_of : ReportEnd → ℕ

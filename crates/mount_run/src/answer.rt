@@ -1,20 +1,24 @@
-ghost use Rattle.std.specs.Prelude.{◌≡◌, [], IfOk, Err};
+ghost use Rattle.std.specs.Prelude.{◌≡◌, ◌<◌, [], IfOk, Err};
 ghost use Rattle.job_model.specs.declared.job.Job.{Job as JobValue};
 ghost use Rattle.job_model.specs.Job.{IsJob, IsServedSoFar};
 ghost use Rattle.job_model.specs.JobText.{IsJobText, IsNoJob};
+ghost use Rattle.mount_model.specs.MountForm.{mount_of_job};
 ghost use Rattle.mount_run.specs.InputAndOutput.{maker_of, Writes};
 
 use crate::output::Output;
-use crate::ring::name_key;
+use crate::ring::{file_format, name_key};
 use crate::serve::serve;
 use crate::show::show;
 use crate::status::OK;
 use crate::words::Command;
+use extent_file::Ecryptfs;
 use job_model::NameCoding;
 use job_text::{Job, JobError, read_job};
-use lower_tree::LowerMaker;
+use lower_tree::{LowerMaker, Steps};
 use name_tag70::{PlainNames, Tag70};
 use std::alloc::{AllocError, Global};
+use std::marker::Brand;
+use std::sync::ledger::{Blank, Ledger};
 
 // The job with this text, and the room in which the text stood.
 fn job_of(alloc: Global, octets: Vec<u8>) -> Result<(Job, Vec<u8>), JobError>
@@ -28,21 +32,49 @@ fn job_of(alloc: Global, octets: Vec<u8>) -> Result<(Job, Vec<u8>), JobError>
     Ok((job, room))
 }
 
-// The report of a job, under its form of names.
-fn report_of<M: LowerMaker>(alloc: Global, job: Job, lower: &mut M) -> Result<Output, AllocError>
+// The report of a job, under its form of names and this format of bodies.
+fn report_in<M: LowerMaker, L: Ledger>(
+    alloc: Global,
+    job: Job,
+    lower: &mut M,
+    format: &Ecryptfs,
+    steps: Steps<L>,
+) -> Result<Output, AllocError>
     requires lawful { IsJob job }
     requires served { IsServedSoFar job }
+    requires format { format.now.mount ≡ mount_of_job job }
     ensures { IfOk result (λ out. Writes Command.Replay job (maker_of M.tells M.count M.tally_of lower.old) (maker_of M.tells M.count M.tally_of lower.new) out.status out.text.items) }
 {
     match job.names {
-        NameCoding::Plain => serve(alloc, job, lower, PlainNames),
+        NameCoding::Plain => serve(alloc, job, lower, PlainNames, format, steps),
         NameCoding::Tag70 => {
             let form = Tag70::new(name_key(&job.namesalt, job.passphrase.as_slice()));
-            let output = serve(alloc, job, lower, &form);
+            let output = serve(alloc, job, lower, &form, format, steps);
             form.end();
             output
         }
     }
+}
+
+// The report of a job, with the steps of this blank.
+fn report_of<M: LowerMaker, L: Ledger>(
+    alloc: Global,
+    job: Job,
+    lower: &mut M,
+    blank: Blank,
+) -> Result<Output, AllocError>
+    requires name { blank.name ≡ L.name }
+    requires parts { blank.parts ≡ L.parts }
+    requires some { 0 < L.parts }
+    requires lawful { IsJob job }
+    requires served { IsServedSoFar job }
+    ensures { IfOk result (λ out. Writes Command.Replay job (maker_of M.tells M.count M.tally_of lower.old) (maker_of M.tells M.count M.tally_of lower.new) out.status out.text.items) }
+{
+    let (book, share) = blank.open::<L>();
+    let format = file_format(&job);
+    let output = report_in(alloc, job, lower, &format, Steps::new(book, share));
+    format.end();
+    output
 }
 
 // The output of a command for a job, which may be written into this room.
@@ -62,7 +94,7 @@ fn output_of<M: LowerMaker>(
     match command {
         Command::Replay => {
             drop(room);
-            report_of(alloc, job, lower)
+            report_of::<M, Brand>(alloc, job, lower, Blank::new(1))
         }
         Command::Show => Ok(Output {
             status: OK,

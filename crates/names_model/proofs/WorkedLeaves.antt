@@ -13,6 +13,7 @@ use Rattle.tree_model.specs.Names.{is_named, node_of}
 use Rattle.tree_model.specs.Walk.{walk, kind_of, found, ◌>>=◌}
 use Rattle.tree_model.specs.PlainTree.{PlainTree}
 use Rattle.tree_model.proofs.NameLemmas.{is_named_is}
+use Rattle.body_model.specs.LowerFile.{LowerFile}
 use Rattle.names_model.specs.declared.entry.Linked.{Linked}
 use Rattle.names_model.specs.NameForm.{NameForm}
 use Rattle.names_model.specs.LowerPaths.{tree_paths, kind_of_thing, thing_at, files_of, paths_below}
@@ -79,6 +80,10 @@ no_dir places k m d same g h = let i : slice_get places m ≡ Some (Dir d) = sub
 no_file : (places : List Place) (k m : ℕ) (d : Directory) → k ≡ m → slice_get places m ≡ Some (Dir d) → slice_get places k ≡ Some File → ⊥
 no_file places k m d same g h = let i : slice_get places m ≡ Some File = subst (λ (z : ℕ). slice_get places z ≡ Some File) same h in cc
 
+-- each file holds what it held
+abbrev as_it_was : List LowerNode → ℕ → LowerFile → Type 0
+as_it_was before n file = file ≡ files_of before n
+
 -- ---- a name longer than the longest: its lower name stays, since nobody writes one for it
 
 abbrev ab : List ℕ
@@ -114,7 +119,7 @@ lower_of names after y c h = elim (c.no_other y h) [
 some_is : (x y : List ℕ) → Some x ≡ Some y → x ≡ y
 some_is x y h = cc
 
-long_name_written : Leaves wave before_l end_l after_l → ⊥
+long_name_written : Leaves wave (as_it_was before_l) before_l end_l after_l → ⊥
 long_name_written h =
     let c : CarriesDirectory wave h.names (tree_paths after_l) [] d_l = h.carried.directories [] 0 d_l refl refl in
     let is : h.names 1 ≡ wab = lower_of h.names after_l wab c refl in
@@ -127,7 +132,7 @@ long_name_written h =
           absurd cc)
     ]
 
-too_many : Leaves wave before_l end_l after_many → ⊥
+too_many : Leaves wave (as_it_was before_l) before_l end_l after_many → ⊥
 too_many h =
     let c : CarriesDirectory wave h.names (tree_paths after_many) [] d_l = h.carried.directories [] 0 d_l refl refl in
     let e : ab ≡ wab = sym (lower_of h.names after_many ab c refl) ∙ lower_of h.names after_many wab c refl in
@@ -230,24 +235,48 @@ lawful_h = (
   ),
 )
 
-honest : Leaves wave before_h end_h before_h
+honest : Leaves wave (as_it_was before_h) before_h end_h before_h
 honest = record {
   lawful = lawful_h;
   names = names_h;
   carried = record { kinds = kinds_h; directories = directories_h };
-  untouched = record { files = files_h; foreign = foreign_h };
+  files = record { files = λ path n h s. (files_of before_h n, files_h path n h s, refl); foreign = foreign_h };
   named = named_h;
 }
+
+-- the file has other octets, though nothing may have changed it
+abbrev changed : LowerNode
+changed = record { parent = 0; kind = kinds.File; name = a; attribute = None; body = 1 ∷ [] }
+
+abbrev after_change : List LowerNode
+after_change = top ∷ changed ∷ dir 0 wa ∷ file 2 b ∷ []
+
+holds_is : (x y : LowerFile) → Some (Holds x) ≡ Some (Holds y) → x ≡ y
+holds_is x y h = cc
+
+other_octets : (files_of after_change 1).body ≡ (files_of before_h 1).body → ⊥
+other_octets h = cc
+
+changed_file : Leaves wave (as_it_was before_h) before_h end_h after_change → ⊥
+changed_file h =
+    let is : h.names 1 ≡ a = elim ((h.carried.directories [] 0 d_h refl refl).no_other a refl) [
+      | inl w ↦ subst (λ (z : ℕ). h.names z ≡ a) (sym (entry_is a w.0 1 w.1 w.2).1) w.3
+      | inr w ↦ absurd (differ (sym (ap (λ (z : ForeignEntry). z.lower) (is_f0 w.0 w.1)) ∙ w.2))
+    ] in
+    let f = h.files.files (a ∷ []) 1 refl refl in
+    let found_file : Some (Holds (files_of after_change 1)) ≡ Some (Holds f.0) = sym (ap (λ (z : List ℕ). tree_paths after_change (z ∷ [])) is) ∙ f.1 in
+    let same : files_of after_change 1 ≡ files_of before_h 1 = holds_is (files_of after_change 1) f.0 found_file ∙ f.2 in
+    other_octets (ap (λ (file : LowerFile). file.body) same)
 
 -- what is below a foreign entry is lost; the foreign entry has become a file
 abbrev after_lost : List LowerNode
 after_lost = top ∷ file 0 a ∷ dir 0 wa ∷ []
 
-lost : Leaves wave before_h end_h after_lost → ⊥
-lost h = let e : None ≡ Some (Holds (files_of before_h 3)) = h.untouched.foreign [] 0 d_h f0 refl refl (inl refl) (b ∷ []) in cc
+lost : Leaves wave (as_it_was before_h) before_h end_h after_lost → ⊥
+lost h = let e : None ≡ Some (Holds (files_of before_h 3)) = h.files.foreign [] 0 d_h f0 refl refl (inl refl) (b ∷ []) in cc
 
 abbrev after_file : List LowerNode
 after_file = top ∷ file 0 a ∷ file 0 wa ∷ []
 
-as_file : Leaves wave before_h end_h after_file → ⊥
-as_file h = let e : Some (Holds (files_of after_file 2)) ≡ Some paths.LowerThing.Directory = h.untouched.foreign [] 0 d_h f0 refl refl (inl refl) [] in cc
+as_file : Leaves wave (as_it_was before_h) before_h end_h after_file → ⊥
+as_file h = let e : Some (Holds (files_of after_file 2)) ≡ Some paths.LowerThing.Directory = h.files.foreign [] 0 d_h f0 refl refl (inl refl) [] in cc

@@ -3,6 +3,7 @@ use Rattle.std.specs.Prelude.{ℕ, ◌≡◌, ◌≢◌, ◌⊎◌, List, [], �
 use Rattle.std.specs.Option.{option_map, option_map_or}
 use Rattle.lower_model.specs.declared.node.LowerNode.{LowerNode}
 use Rattle.lower_model.specs.LowerTree.{IsLowerTree}
+use Rattle.body_model.specs.LowerFile.{LowerFile}
 use Rattle.tree_model.specs.declared.place.ForeignEntry.{ForeignEntry}
 use Rattle.tree_model.specs.declared.place.Directory.{Directory}
 use Rattle.tree_model.specs.declared.place.Place.{Place}
@@ -12,7 +13,7 @@ use Rattle.tree_model.specs.Walk.{walk, kind_of}
 use Rattle.tree_model.specs.PlainTree.{PlainTree}
 use Rattle.tree_model.specs.IsTree.{node_in}
 use Rattle.names_model.specs.NameForm.{NameForm, IsWritten}
-use Rattle.names_model.specs.LowerPaths.{LowerPaths, kind_of_thing, files_of, tree_paths, paths_below}
+use Rattle.names_model.specs.LowerPaths.{LowerPaths, kind_of_thing, tree_paths, paths_below}
 use Rattle.names_model.specs.LowerPaths.LowerThing.{Holds}
 use Rattle.names_model.specs.ShownBy.{shown_of}
 
@@ -41,12 +42,12 @@ pub record Carries (form : NameForm) (t : PlainTree) (names : ℕ → List ℕ) 
   pub directories : (path : List (List ℕ)) (k : ℕ) (d : Directory) → walk t.places 0 path ≡ Ok k → slice_get t.places k ≡ Some (Dir d)
       → CarriesDirectory form names lower (lower_path names t.places 0 path) d
 
--- ---- what is as it was in a lower tree before, whose nodes have the numbers of the plain tree's
+-- ---- what is left of a lower tree before, whose nodes have the numbers of the plain tree's
 
--- Each file of the plain tree has the octets that it had; a new one has none. Below each foreign entry all is as it was.
-pub record IsUntouched (t : PlainTree) (names : ℕ → List ℕ) (before : List LowerNode) (lower : LowerPaths) : Type 0 where
+-- Each file of the plain tree holds what may be left at its node. Below each foreign entry all is as it was.
+pub record LeavesFiles (MayHold : ℕ → LowerFile → Type 0) (t : PlainTree) (names : ℕ → List ℕ) (before : List LowerNode) (lower : LowerPaths) : Type 0 where
   pub files : (path : List (List ℕ)) (n : ℕ) → walk t.places 0 path ≡ Ok n → slice_get t.places n ≡ Some File
-      → lower (lower_path names t.places 0 path) ≡ Some (Holds (files_of before n))
+      → (file : LowerFile) × (lower (lower_path names t.places 0 path) ≡ Some (Holds file)) × MayHold n file
   pub foreign : (path : List (List ℕ)) (k : ℕ) (d : Directory) (f : ForeignEntry) → walk t.places 0 path ≡ Ok k → slice_get t.places k ≡ Some (Dir d) → Among f d.foreign
       → (below : List (List ℕ)) → lower (lower_path names t.places 0 path ++ f.lower ∷ below) ≡ paths_below before f.node below
 
@@ -60,12 +61,12 @@ AreNames form t names before =
     (path : List (List ℕ)) (k : ℕ) (d : Directory) (name : List ℕ) (n : ℕ) → walk t.places 0 path ≡ Ok k → slice_get t.places k ≡ Some (Dir d) → node_of name d.shown ≡ Some n
     → IsWritten form name (names n) ⊎ ((m : ℕ) × (node_in (slice_get (shown_of form before).places k) name ≡ Some m) × (name_in (slice_get before m) ≡ Some (names n)))
 
--- ---- what a run leaves of a lower tree, with this plain tree at its end
+-- ---- what a run leaves of a lower tree, with this plain tree at its end, whose files may hold this
 
-pub record Leaves (form : NameForm) (before : List LowerNode) (end : PlainTree) (after : List LowerNode) : Type 0 where
+pub record Leaves (form : NameForm) (MayHold : ℕ → LowerFile → Type 0) (before : List LowerNode) (end : PlainTree) (after : List LowerNode) : Type 0 where
   pub lawful : IsLowerTree after
   -- the lower name of each node
   pub names : ℕ → List ℕ
   pub carried : Carries form end names (tree_paths after)
-  pub untouched : IsUntouched end names before (tree_paths after)
+  pub files : LeavesFiles MayHold end names before (tree_paths after)
   pub named : AreNames form end names before

@@ -8,3 +8,4 @@ pub mod Below
 pub mod Replaced
 pub mod Named
 pub mod Changed
+pub mod Unshown

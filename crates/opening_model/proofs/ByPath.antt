@@ -10,10 +10,11 @@ use Rattle.names_model.specs.declared.entry.Linked.{Linked}
 use Rattle.names_model.specs.Store.{Entries, Store, linked_at, store_of}
 use Rattle.names_model.specs.StoreCalls.{IsKind, IsStoreTree}
 use Rattle.names_model.specs.NameForm.{NameForm}
-use Rattle.names_model.specs.LowerPaths.{kind_of_thing, thing_of, thing_at, found, paths_of, paths_below, entry_to, files_of, root}
+use Rattle.names_model.specs.LowerPaths.{LowerThing, kind_of_thing, thing_of, thing_at, found, paths_of, paths_below, entry_to, files_of, root}
+use Rattle.names_model.specs.LowerPaths.LowerThing.{Holds}
 use Rattle.body_model.specs.LowerFile.{LowerFile}
 use Rattle.names_model.specs.ShownBy.{shown_of}
-use Rattle.names_model.specs.CarriedBy.{Among, Carries, CarriesDirectory, IsUntouched, AreNames, lower_path, name_in}
+use Rattle.names_model.specs.CarriedBy.{Among, Carries, CarriesDirectory, LeavesFiles, AreNames, lower_path, name_in}
 use Rattle.tree_model.specs.declared.place.ForeignEntry.{ForeignEntry}
 use Rattle.tree_model.specs.declared.place.Directory.{Directory}
 use Rattle.tree_model.specs.declared.place.Place.{Place}
@@ -46,6 +47,15 @@ one_more (Some l) = refl
 thing_kind : (kind : Kind) (file : LowerFile) → kind_of_thing (thing_of kind file) ≡ kind
 thing_kind kinds.Dir file = refl
 thing_kind kinds.File file = refl
+
+-- files that have the same octets
+same_thing : (files old : ℕ → LowerFile) (kind : Kind) (n : ℕ) → (kind ≡ kinds.File → files n ≡ old n) → thing_of kind (files n) ≡ thing_of kind (old n)
+same_thing files old kinds.Dir n same = refl
+same_thing files old kinds.File n same = ap (λ (file : LowerFile). Holds file) (same refl)
+
+same_things : (files old : ℕ → LowerFile) (o : Option Linked) → ((l : Linked) → o ≡ Some l → l.kind ≡ kinds.File → files l.node ≡ old l.node) → option_map (thing_at files) o ≡ option_map (thing_at old) o
+same_things files old (Some l) same = ap (λ (x : LowerThing). Some x) (same_thing files old l.kind l.node (same l refl))
+same_things files old None same = refl
 
 node_kind : (p : Option Place) → IsNode p → kind_of p ≡ Some (kind_by (is_dir p))
 node_kind (Some (Dir d)) h = refl
@@ -120,7 +130,11 @@ module _ (form : NameForm) (t : PlainTree) (kept : List (List ℕ)) (store : Sto
       directories = carries_directory;
     }
 
-  -- files, and what lies below foreign entries, are as they were in a lower tree
+  -- a file of the plain tree is found by its lower names
+  pub holds_files : (files : ℕ → LowerFile) (path : List (List ℕ)) (n : ℕ) → walk t.places 0 path ≡ Ok n → slice_get t.places n ≡ Some File → paths_of store files (lower_path names t.places 0 path) ≡ Some (Holds (files n))
+  holds_files files path n h is = ap (option_map (thing_at files)) (from_root path n h) ∙ ap (λ (p : Option Place). Some (thing_of (kind_by (is_dir p)) (files n))) is
+
+  -- what lies below foreign entries is as it was in a lower tree, where these files are
   module _ (nodes : List LowerNode) (below : AreBelow (store_of nodes) t.places store) where
     old_link : (n : ℕ) (f : ForeignEntry) → Among f (foreign_at (slice_get t.places n)) → (l : Linked) × (linked_at (store_of nodes n) f.lower ≡ Some l) × (l.node ≡ f.node)
     old_link n f among =
@@ -133,21 +147,26 @@ module _ (form : NameForm) (t : PlainTree) (kept : List (List ℕ)) (store : Sto
         let kind : o.x.kind ≡ l.kind = o.kind in
         ap (option_map (λ (x : LowerNode). record { kind = x.kind; node = l.node })) o.at ∙ ap (λ (kd : Kind). Some (record { kind = kd; node = l.node })) kind
 
-    foreign_below : (path : List (List ℕ)) (n : ℕ) (d : Directory) (f : ForeignEntry) → walk t.places 0 path ≡ Ok n → slice_get t.places n ≡ Some (Dir d) → Among f d.foreign
-        → (more : List (List ℕ)) → paths_of store (files_of nodes) (lower_path names t.places 0 path ++ f.lower ∷ more) ≡ paths_below nodes f.node more
-    foreign_below path n d f h is among more =
+    pub keeps_foreign : (files : ℕ → LowerFile)
+        → ((n : ℕ) (f : ForeignEntry) → Among f (foreign_at (slice_get t.places n)) → (path : List (List ℕ)) (l : Linked) → found (store_of nodes) (record { kind = kinds.Dir; node = n }) (f.lower ∷ path) ≡ Some l
+        → l.kind ≡ kinds.File → files l.node ≡ files_of nodes l.node)
+        → (path : List (List ℕ)) (n : ℕ) (d : Directory) (f : ForeignEntry) → walk t.places 0 path ≡ Ok n → slice_get t.places n ≡ Some (Dir d) → Among f d.foreign
+        → (more : List (List ℕ)) → paths_of store files (lower_path names t.places 0 path ++ f.lower ∷ more) ≡ paths_below nodes f.node more
+    keeps_foreign files same path n d f h is among more =
         let here : Among f (foreign_at (slice_get t.places n)) = subst (λ (p : Option Place). Among f (foreign_at p)) (sym is) among in
         let l = old_link n f here in
-        ap (option_map (thing_at (files_of nodes))) (behind_path path n d (f.lower ∷ more) h is ∙ below.below n f here more
-        ∙ ap (λ (o : Option Linked). option_and_then (λ (m : Linked). found (store_of nodes) m more) o) l.1)
+        ap (option_map (thing_at files)) (behind_path path n d (f.lower ∷ more) h is ∙ below.below n f here more)
+        ∙ same_things files (files_of nodes) (found (store_of nodes) (record { kind = kinds.Dir; node = n }) (f.lower ∷ more)) (same n f here more)
+        ∙ ap (option_map (thing_at (files_of nodes))) (ap (λ (o : Option Linked). option_and_then (λ (m : Linked). found (store_of nodes) m more) o) l.1)
         ∙ sym (ap (λ (j : ℕ). paths_below nodes j more) (sym l.2)
         ∙ ap (option_and_then (λ (m : Linked). option_map (thing_at (files_of nodes)) (found (store_of nodes) m more))) (entry_is n f.lower l.0 l.1))
 
-    pub untouched : IsUntouched t names nodes (paths_of store (files_of nodes))
-    untouched = record {
-      files = λ path n h is. ap (option_map (thing_at (files_of nodes))) (from_root path n h) ∙ ap (λ (p : Option Place). Some (thing_of (kind_by (is_dir p)) (files_of nodes n))) is;
-      foreign = foreign_below;
-    }
+    -- what is left of the lower tree, where each file may be left so
+    pub leaves_files : (MayHold : ℕ → LowerFile → Type 0) (files : ℕ → LowerFile) → ((n : ℕ) → slice_get t.places n ≡ Some File → MayHold n (files n))
+        → ((n : ℕ) (f : ForeignEntry) → Among f (foreign_at (slice_get t.places n)) → (path : List (List ℕ)) (l : Linked) → found (store_of nodes) (record { kind = kinds.Dir; node = n }) (f.lower ∷ path) ≡ Some l
+        → l.kind ≡ kinds.File → files l.node ≡ files_of nodes l.node)
+        → LeavesFiles MayHold t names nodes (paths_of store files)
+    leaves_files MayHold files may same = record { files = λ path n h is. (files n, holds_files files path n h is, may n is); foreign = keeps_foreign files same }
 
   -- the lower names are the written ones, or those of the lower tree
   pub are_names : IsForm form → (nodes : List LowerNode) → IsLowerTree nodes → (first : List (List ℕ))

@@ -8,3 +8,4 @@ pub mod Stages
 pub mod Opened
 pub mod Openings
 pub mod ByPath
+pub mod SameBelow

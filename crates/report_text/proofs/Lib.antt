@@ -1,2 +1,4 @@
 pub mod EntryFields
 pub mod ItemFields
+pub mod NodeRuns
+pub mod ShardLogs

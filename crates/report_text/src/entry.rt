@@ -45,15 +45,29 @@ fn put_tree_call(out: &mut Vec<u8>, call: &TreeCall) -> Result<(), AllocError>
     }
 }
 
+/// Adds the front of an entry's line: the session, its operation, and the counts of faults around
+/// the turn, each with a space behind it.
+pub(crate) fn put_turn(
+    out: &mut Vec<u8>,
+    session: u32,
+    op: u32,
+    before: u64,
+    after: u64,
+) -> Result<(), AllocError>
+    ensures { OnOk result (out.new.items ≡ out.old.items ++ number session ++ 32 ∷ [] ++ number op ++ 32 ∷ [] ++ number before ++ 32 ∷ [] ++ number after ++ 32 ∷ []) }
+{
+    put_count(out, session as u64)?;
+    put_count(out, op as u64)?;
+    put_count(out, before)?;
+    put_count(out, after)
+}
+
 /// Adds the line of a turn of the tree: the session, its operation, the counts of faults around the
 /// turn, the call and its reply.
 pub fn put_entry_line(out: &mut Vec<u8>, entry: &TreeEntry) -> Result<(), AllocError>
     ensures { OnOk result (out.new.items ≡ out.old.items ++ entry_line entry.now) }
 {
-    put_count(out, entry.session as u64)?;
-    put_count(out, entry.op as u64)?;
-    put_count(out, entry.before)?;
-    put_count(out, entry.after)?;
+    put_turn(out, entry.session, entry.op, entry.before, entry.after)?;
     put_tree_call(out, &entry.call)?;
     put_word(out, " = ")?;
     put_tree_reply(out, &entry.reply)?;

@@ -38,7 +38,7 @@ pub(crate) fn put_number_field(out: &mut Vec<u8>, n: u64) -> Result<(), AllocErr
     put_number(out, n)
 }
 
-fn put_hex_field(out: &mut Vec<u8>, octets: &[u8]) -> Result<(), AllocError>
+pub(crate) fn put_hex_field(out: &mut Vec<u8>, octets: &[u8]) -> Result<(), AllocError>
     ensures ok { OnOk result (out.new.items ≡ out.old.items ++ 32 ∷ hex octets.now) }
     ensures err { OnErr result (BeginsWith out.new.items out.old.items) }
 {

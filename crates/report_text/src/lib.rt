@@ -1,9 +1,12 @@
-//! Writes the report of a run: the replies of each session, the tree's history, and the image of
-//! the lower tree after the run or the part that failed; and the show text of an image.
+//! Writes the report of a run: the replies of each session, the histories of the tree and of each
+//! file, and the image of the lower tree after the run or the part that failed; and the show text
+//! of an image.
 #![tactic(auto)]
 
 mod entry;
 mod fields;
+mod file_entry;
+mod files;
 mod reply;
 mod report;
 mod show;

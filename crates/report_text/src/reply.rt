@@ -93,7 +93,7 @@ pub fn put_tree_reply(out: &mut Vec<u8>, reply: &TreeReply) -> Result<(), AllocE
 }
 
 /// Adds the fields of a reply of a file.
-fn put_file_reply(out: &mut Vec<u8>, reply: &FileReply) -> Result<(), AllocError>
+pub fn put_file_reply(out: &mut Vec<u8>, reply: &FileReply) -> Result<(), AllocError>
     ensures { OnOk result (out.new.items ≡ out.old.items ++ join_with_byte 32 (file_reply reply.now)) }
 {
     match reply {

@@ -1,16 +1,19 @@
-ghost use Rattle.std.specs.Prelude.{◌≡◌, ◌∷◌, ◌++◌, [], map, IfOk, OnOk};
+ghost use Rattle.std.specs.Prelude.{◌≡◌, ◌∷◌, ◌++◌, [], List, map, IfOk, OnOk};
 ghost use Rattle.std.specs.List.{flat_map};
 ghost use Rattle.text_model.specs.Line.{line, number};
 ghost use Rattle.job_model.specs.JobText.{image_text};
+ghost use Rattle.session_model.specs.declared.entry.FileEntry.{FileEntry};
+ghost use Rattle.file_model.specs.FileLog.{AreShardLogs};
 ghost use Rattle.served_model.specs.ReportText.{reply_line, session_text, sessions_text, entry_line, tree_text, stuck_line, end_text, report_head, stuck_text, report_text};
 
 use crate::entry::put_entry_line;
+use crate::files::{entries_by_node, put_files};
 use crate::reply::put_reply_line;
 use line_writer::{put_line_end, put_number, put_space, put_word};
 use lower_image::write_image;
 use served_model::ReportEnd;
 use session::Session;
-use session_model::{Reply, TreeEntry};
+use session_model::{FileEntry, Reply, TreeEntry};
 use std::alloc::{AllocError, Global};
 use turn_lock::Chain;
 
@@ -112,25 +115,29 @@ fn put_end(alloc: Global, out: &mut Vec<u8>, end: &ReportEnd) -> Result<(), Allo
     }
 }
 
-/// The text of a report: the replies of each session, by the sessions' numbers, the tree's
-/// history, which is read from its chain without a copy, and how the run ended.
+/// The text of a report: the replies of each session, by the sessions' numbers, the histories of
+/// the tree and of the files, by the logs of their shards, which are read from their chains without
+/// a copy, and how the run ended.
 pub fn write_report(
     alloc: Global,
     sessions: &[Session],
     tree_log: &Chain<TreeEntry>,
+    file_logs: &[Chain<FileEntry>],
     end: &ReportEnd,
 ) -> Result<Vec<u8>, AllocError>
-    ensures { IfOk result (λ out. out.items ≡ report_text (record {
+    ensures { IfOk result (λ out. (log : List FileEntry) → AreShardLogs file_logs.now log → out.items ≡ report_text (record {
       sessions = map (λ s. s.replies) sessions.now;
-      histories = record { tree = tree_log.now; file = [] };
+      histories = record { tree = tree_log.now; file = log };
       end = end.now;
     })) }
 {
-    let entries = tree_log.entries(alloc)?;
+    let tree_entries = tree_log.entries(alloc)?;
+    let file_entries = entries_by_node(alloc, file_logs)?;
     let mut out = Vec::new(alloc);
     put_report_head(&mut out)?;
     put_sessions(&mut out, sessions)?;
-    put_tree(&mut out, &entries)?;
+    put_tree(&mut out, &tree_entries)?;
+    put_files(&mut out, &file_entries)?;
     put_end(alloc, &mut out, end)?;
     Ok(out)
 }

@@ -4,11 +4,18 @@ use std::alloc::{AllocError, Global};
 
 pub const EMPTY_IMAGE: &[u8] = b"ECRYIMG1\x00\x00\x00\x00";
 
-/// A job on this image, whose one session has these script lines.
-pub fn job(alloc: Global, image: &[u8], lines: &[&str]) -> Result<Vec<u8>, AllocError> {
+/// A job on this image, whose one session has these script lines, and whose new files have their metadata in this place.
+pub fn job_with(
+    alloc: Global,
+    meta: &str,
+    image: &[u8],
+    lines: &[&str],
+) -> Result<Vec<u8>, AllocError> {
     let mut octets = Vec::new(alloc);
     octets.extend_from_slice(b"ecryptfs-job 1\npassphrase 74657374\nsalt 0011223344556677\n")?;
-    octets.extend_from_slice(b"namesalt 0011223344556677\nnames plain\nmeta header\nrandom ")?;
+    octets.extend_from_slice(b"namesalt 0011223344556677\nnames plain\nmeta ")?;
+    octets.extend_from_slice(meta.as_bytes())?;
+    octets.extend_from_slice(b"\nrandom ")?;
     octets.extend_from_slice(&[b'0'; 64])?;
     octets.extend_from_slice(format!(in alloc; "\nimage {}\n", image.len())?.as_bytes())?;
     octets.extend_from_slice(image)?;
@@ -22,6 +29,11 @@ pub fn job(alloc: Global, image: &[u8], lines: &[&str]) -> Result<Vec<u8>, Alloc
     Ok(octets)
 }
 
+/// The same with metadata at the heads of bodies.
+pub fn job(alloc: Global, image: &[u8], lines: &[&str]) -> Result<Vec<u8>, AllocError> {
+    job_with(alloc, "header", image, lines)
+}
+
 /// Which calls fail, by their numbers from 1.
 #[derive(Clone, Copy)]
 pub struct Failing<'a> {
@@ -31,6 +43,9 @@ pub struct Failing<'a> {
     pub maker: &'a [u64],
     /// On the names that the first split makes.
     pub names: &'a [u64],
+    /// On the stores of bodies that it makes, those that change and those that read, each with the number of its store, from 0.
+    pub changes: &'a [(u32, u64)],
+    pub reads_of_bodies: &'a [(u32, u64)],
 }
 
 /// No call fails.
@@ -39,6 +54,8 @@ pub const FAULTLESS: Failing = Failing {
     writes: &[],
     maker: &[],
     names: &[],
+    changes: &[],
+    reads_of_bodies: &[],
 };
 
 /// A maker whose calls fail so.
@@ -46,8 +63,8 @@ pub fn maker(alloc: Global, failing: Failing) -> Result<MemMaker, AllocError> {
     Ok(MemMaker::new(MemFails {
         maker: failing.maker.to_vec(alloc)?,
         names: failing.names.to_vec(alloc)?,
-        changes: Vec::new(alloc),
-        reads: Vec::new(alloc),
+        changes: failing.changes.to_vec(alloc)?,
+        reads: failing.reads_of_bodies.to_vec(alloc)?,
     }))
 }
 

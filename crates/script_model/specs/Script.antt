@@ -41,24 +41,3 @@ IsOp (ops.Close slot) = IsSlot slot
 pub record IsScript (script : List Op) : Type 0 where
   pub few : length script ≤ MOST_OPERATIONS
   pub ops : AllByRecursion IsOp script
-
--- an operation that makes one call on the tree, and none on a file
-abbrev pub IsTreeOp : Op → Type 0
-IsTreeOp (ops.Mkdir path) = Unit {0}
-IsTreeOp (ops.Rmdir path) = Unit {0}
-IsTreeOp (ops.Unlink path) = Unit {0}
-IsTreeOp (ops.Rename paths) = Unit {0}
-IsTreeOp (ops.List path) = Unit {0}
-IsTreeOp (ops.Stat path) = Unit {0}
-IsTreeOp (ops.Open slot path) = ⊥
-IsTreeOp (ops.Create slot path) = ⊥
-IsTreeOp (ops.Read slot offset len) = ⊥
-IsTreeOp (ops.Write slot offset octets) = ⊥
-IsTreeOp (ops.Truncate slot size) = ⊥
-IsTreeOp (ops.Size slot) = ⊥
-IsTreeOp (ops.Sync slot) = ⊥
-IsTreeOp (ops.Close slot) = ⊥
-
--- Each operation makes one call on the tree, and none on a file.
-abbrev pub IsTreeScript : List Op → Type 0
-IsTreeScript script = AllByRecursion IsTreeOp script

@@ -1,1 +1,2 @@
+mod FieldReaders
 pub mod OpReader

@@ -1,6 +1,6 @@
 ghost use Rattle.std.specs.Prelude.{◌≡◌, ◌∷◌, IfOk};
 ghost use Rattle.std.specs.Option.{option_copied};
-ghost use Rattle.script_text.specs.OpReading.{fields_in, fields_behind, path_alone, path_pair};
+ghost use Rattle.script_text.specs.OpReading.{fields_in, fields_behind, only_field as only_field_test, path_alone, path_pair};
 
 use line_reader::{cut_at, read_path};
 use std::alloc::{AllocError, Global};
@@ -16,20 +16,27 @@ pub(crate) fn first_field(text: &[u8]) -> (&[u8], Option<&[u8]>)
     }
 }
 
-/// The path that is the one field of a text.
-pub(crate) fn read_alone(alloc: Global, text: Option<&[u8]>) -> Result<Option<Path>, AllocError>
-    ensures { IfOk result (λ found. found ≡ path_alone (fields_behind (option_copied text.entry))) }
+/// The field of a text that has one alone.
+pub(crate) fn only_field(text: Option<&[u8]>) -> Option<&[u8]>
+    ensures { option_copied result ≡ only_field_test (fields_behind (option_copied text.entry)) }
 {
-    let Some(text) = text else {
-        return Ok(None);
-    };
-    match first_field(text) {
-        (field, None) => read_path(alloc, field),
-        (_, Some(_)) => Ok(None),
+    match first_field(text?) {
+        (field, None) => Some(field),
+        (_, Some(_)) => None,
     }
 }
 
-/// The two paths that are the two fields of a text.
+/// A path, and nothing behind it.
+pub(crate) fn read_alone(alloc: Global, text: Option<&[u8]>) -> Result<Option<Path>, AllocError>
+    ensures { IfOk result (λ found. found ≡ path_alone (fields_behind (option_copied text.entry))) }
+{
+    match only_field(text) {
+        Some(field) => read_path(alloc, field),
+        None => Ok(None),
+    }
+}
+
+/// Two paths.
 pub(crate) fn read_pair(
     alloc: Global,
     text: Option<&[u8]>,

@@ -2,6 +2,7 @@
 #![tactic(auto)]
 
 mod fields;
+mod file_fields;
 mod read;
 #[cfg(test)]
 mod tests;

@@ -1,2 +1,5 @@
+pub mod FileNodes
 mod ReportValues
 mod Tallies
+mod FileTallies
+pub mod Unopened

@@ -1,5 +1,5 @@
 -- Worked values of reports.
-use Rattle.std.proofs.Common.{◌≡◌, [], ◌∷◌, ◌++◌, refl}
+use Rattle.std.proofs.Common.{◌≡◌, ℕ, List, [], ◌∷◌, ◌++◌, refl}
 use Rattle.std.specs.Prelude.{codes, None}
 use Rattle.std.specs.Fmt.{digits}
 use Rattle.hex.specs.Hex.{encode_with}
@@ -10,11 +10,15 @@ use Rattle.tree_model.specs.declared.call.TreeReply.{TreeReply}
 use Rattle.tree_model.specs.declared.call.TreeReply.TheVariants as replies
 use Rattle.tree_model.specs.declared.call.TreeRefusal.TheVariants.{Exists}
 use Rattle.session_model.specs.declared.entry.TreeEntry.{TreeEntry}
-use Rattle.session_model.specs.declared.reply.Reply.TheVariants.{Tree, File, Opened, Slot, Memory}
+use Rattle.session_model.specs.declared.entry.FileEntry.{FileEntry}
+use Rattle.session_model.specs.declared.file.FileCall.{FileCall}
+use Rattle.session_model.specs.declared.file.FileCall.TheVariants as on_file
+use Rattle.session_model.specs.declared.file.FileReply.{FileReply}
+use Rattle.session_model.specs.declared.reply.Reply.TheVariants.{Tree, File, Opened, Slot, Handle, Memory}
 use Rattle.session_model.specs.declared.file.FileReply.TheVariants as files
 use Rattle.packet_model.specs.declared.cause.BadCause.TheVariants as causes
 use Rattle.served_model.specs.declared.end.ReportEnd.TheVariants.{Image, Stuck}
-use Rattle.served_model.specs.ReportText.{Report, report_text, stuck_text, entry_line, reply_line}
+use Rattle.served_model.specs.ReportText.{Report, report_text, stuck_text, entry_line, files_text, reply_line}
 
 -- ---- a directory `a` is made below an empty root, and listed
 
@@ -128,3 +132,40 @@ failed = record { session = 0; op = 0; call = calls.Mkdir (codes "a" ∷ []); re
 entry_of_fault : entry_line failed ≡ codes "0 0 0 1 mkdir /a = err lower\n"
 unfolding digits
 entry_of_fault = refl
+
+-- ---- files: those with entries stand in the order of their nodes, each with its own entries
+
+abbrev entry_at : ℕ → ℕ → FileCall → FileReply → FileEntry
+entry_at node op call reply = record { session = 0; op = op; node = node; call = call; reply = reply; before = 0; after = 0 }
+
+abbrev two_files : List FileEntry
+two_files =
+    entry_at 10 0 (on_file.Attach 0) files.Done ∷ entry_at 2 1 (on_file.Attach 1) (files.Refused (causes.Short 25)) ∷ entry_at 10 2 (on_file.Write 0 7 (0 ∷ 255 ∷ [])) files.Done
+    ∷ entry_at 10 3 (on_file.Read 0 5 9) (files.Octets (0 ∷ 0 ∷ 0 ∷ 255 ∷ [])) ∷ []
+
+histories_of_two_files : files_text two_files
+    ≡ codes "file 2 1\n0 1 0 0 attach 1 = err bad short 25\nfile 10 3\n0 0 0 0 attach 0 = ok\n0 2 0 0 write 0 7 00ff = ok\n0 3 0 0 read 0 5 9 = data 000000ff\n"
+unfolding digits encode_with
+histories_of_two_files = refl
+
+-- a size, nothing to read, no memory, a close that failed, and a slot that isn't open
+abbrev other_calls : List FileEntry
+other_calls =
+    entry_at 1 0 (on_file.Attach 15) files.Done ∷ entry_at 1 1 (on_file.Truncate 15 1099511627775) files.TooBig ∷ entry_at 1 2 (on_file.Size 15) (files.Length 0)
+    ∷ entry_at 1 3 (on_file.Read 15 0 1) (files.Octets []) ∷ entry_at 1 4 (on_file.Write 15 0 (1 ∷ [])) files.Memory ∷ record (entry_at 1 5 (on_file.Detach 15) files.LowerFault) { after = 1 }
+    ∷ record (entry_at 1 6 (on_file.Sync 14) files.NotOpen) { before = 1; after = 1 } ∷ []
+
+histories_of_other_calls : files_text other_calls
+    ≡ codes "file 1 7\n0 0 0 0 attach 15 = ok\n0 1 0 0 truncate 15 1099511627775 = err toobig\n0 2 0 0 size 15 = ok 0\n0 3 0 0 read 15 0 1 = data -\n"
+    ++ codes "0 4 0 0 write 15 0 01 = err memory\n0 5 0 1 detach 15 = err lower\n0 6 1 1 sync 14 = err notopen\n"
+unfolding digits encode_with
+histories_of_other_calls = refl
+
+-- a report whose second store of bodies couldn't be written out
+stuck_behind_a_file : report_text (record { sessions = (Opened 1 ∷ Handle ∷ []) ∷ []; histories = record { tree = []; file = entry_at 1 0 (on_file.Attach 0) files.Done ∷ [] }; end = Stuck 2 1 3 })
+    ≡ codes "ecryptfs-report 1\nsession 0 2\nok 1\nerr handle\ntree 0\nfile 1 1\n0 0 0 0 attach 0 = ok\nstuck 2 1 3\n"
+unfolding digits
+stuck_behind_a_file = refl
+
+no_histories : files_text [] ≡ []
+no_histories = refl

@@ -1,5 +1,5 @@
--- What the tallies of a run tell of its histories: no count is above the last, which the tally of the names rose by; where no tally rose, they count no fault and answer none.
-use Rattle.std.proofs.Common.{◌≡◌, ℕ, ◌+◌, ◌<◌, ◌≤◌, ◌^◌, ◌-◌, List, [], ◌∷◌, refl, sym, subst, ◌∙◌, arith}
+-- What the tallies of a run tell of the history of its tree: no count is above the last, which the tally of the names rose by; where it did not rise, no turn counts a fault or answers one.
+use Rattle.std.proofs.Common.{◌≡◌, ℕ, Bool, ◌+◌, ◌<◌, ◌≤◌, ◌^◌, ◌-◌, List, [], ◌∷◌, refl, sym, subst, ◌∙◌, arith}
 use Rattle.std.specs.List.{AllByRecursion}
 use Rattle.answer_model.specs.Count.{Rose}
 use Rattle.tree_model.specs.declared.call.TreeReply.{TreeReply}
@@ -11,7 +11,9 @@ use Rattle.session_model.specs.TreeLog.{Turns, IsTurn, IsTreeLog, counts_of}
 use Rattle.lower_tree.specs.Making.{sum_of_counts}
 use Rattle.job_model.specs.declared.job.Job.{Job}
 use Rattle.served_model.specs.ReportText.{Report}
-use Rattle.served_model.specs.Served.{Maker, RanScripts, IsStuckAtOpening}
+use Rattle.file_model.specs.ByteFile.{FileState}
+use Rattle.served_model.specs.declared.end.TheConstants.{PARTS}
+use Rattle.served_model.specs.Served.{Maker, CountsFaults, RanScripts, IsStuckAtOpening}
 
 -- a turn counts no fault and answers none
 abbrev pub CountsNoFault : TreeEntry → Type 0
@@ -62,21 +64,21 @@ below_last (e ∷ log) old new first last legal counts =
     let before : e.before ≤ last = omega arith in
     ((before, rest), below_last log legal.0 new e.after last legal.2 counts.1)
 
--- the last is what the tally rose by, unless the tally is at its end
-pub rose_by : (job : Job) (before after : Maker) (report : Report) (end : PlainTree) (ran : RanScripts job before after report end) → after.tallies 0 < 2 ^ 64 - 1
-    → before.tallies 0 + ran.faults ≡ after.tallies 0
-rose_by job before after report end ran room = let counted : after.tallies 0 ≡ sum_of_counts (before.tallies 0) ran.faults = ran.counted 0 in omega arith
+-- the last count of a part is what its tally rose by, unless the tally is at its end
+pub rose_by : (before after : Maker) (faults : ℕ → ℕ) (part : ℕ) → CountsFaults before after faults → part < PARTS → after.tallies part < 2 ^ 64 - 1
+    → before.tallies part + faults part ≡ after.tallies part
+rose_by before after faults part counted is room = let sum : after.tallies part ≡ sum_of_counts (before.tallies part) (faults part) = counted part is in omega arith
 
 -- names that couldn't be opened raise their tally
 pub opening_rises : (before after : Maker) (output : List ℕ) → IsStuckAtOpening before after output → Rose (before.tallies 0) (after.tallies 0)
 opening_rises before after output stuck =
     let rose : Rose 0 stuck.faults = stuck.rose in
-    let counted : after.tallies 0 ≡ sum_of_counts (before.tallies 0) stuck.faults = stuck.counted 0 in
+    let counted : after.tallies 0 ≡ sum_of_counts (before.tallies 0) stuck.faults = stuck.counted 0 (omega arith) in
     omega arith
 
 -- the report of a run over parts of which no tally rose
-pub ran_faultless : (job : Job) (before after : Maker) (report : Report) (end : PlainTree) → RanScripts job before after report end → before.tallies 0 < 2 ^ 64 - 1 → after.tallies 0 ≡ before.tallies 0
-    → CountNoFault report.histories.tree
-ran_faultless job before after report end ran below stays =
-    let none : ran.faults ≡ 0 = none_added (before.tallies 0) ran.faults below (sym (ran.counted 0) ∙ stays) in
+pub ran_faultless : (tells : Bool) (job : Job) (before after : Maker) (report : Report) (end : PlainTree) (files : ℕ → FileState) (faults : ℕ → ℕ) → RanScripts tells job report end files faults
+    → CountsFaults before after faults → before.tallies 0 < 2 ^ 64 - 1 → after.tallies 0 ≡ before.tallies 0 → CountNoFault report.histories.tree
+ran_faultless tells job before after report end files faults ran counted below stays =
+    let none : faults 0 ≡ 0 = none_added (before.tallies 0) (faults 0) below (sym (counted 0 (omega arith)) ∙ stays) in
     history_faultless ran.start end report.histories.tree (subst (λ (n : ℕ). IsTreeLog ran.start 0 report.histories.tree end n) none ran.tree_history)

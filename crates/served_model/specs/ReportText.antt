@@ -1,5 +1,5 @@
 -- The one spelling of a report.
-use Rattle.std.specs.Prelude.{ℕ, ◌+◌, List, [], ◌∷◌, ◌++◌, length, map, codes}
+use Rattle.std.specs.Prelude.{ℕ, ◌+◌, ◌==◌, nat_lt, if◌then◌else◌, List, [], ◌∷◌, ◌++◌, length, map, codes}
 use Rattle.std.specs.List.{flat_map}
 use Rattle.lower_model.specs.declared.kind.Kind.{Kind}
 use Rattle.lower_model.specs.declared.kind.Kind.TheVariants as kinds
@@ -12,14 +12,18 @@ use Rattle.tree_model.specs.declared.call.TreeRefusal.{TreeRefusal}
 use Rattle.tree_model.specs.declared.call.TreeRefusal.TheVariants.{NameLong, NotFound, NotDir, IsRoot, Exists, IsDir, Inside, NotEmpty, NoNodes}
 use Rattle.image_model.specs.ImageText.{image}
 use Rattle.session_model.specs.declared.entry.TreeEntry.{TreeEntry}
+use Rattle.session_model.specs.declared.entry.FileEntry.{FileEntry}
+use Rattle.session_model.specs.declared.file.FileCall.{FileCall}
+use Rattle.session_model.specs.declared.file.FileCall.TheVariants as on_file
 use Rattle.session_model.specs.declared.file.FileReply.{FileReply}
 use Rattle.session_model.specs.declared.file.FileReply.TheVariants as files
 use Rattle.session_model.specs.declared.reply.Reply.{Reply}
 use Rattle.session_model.specs.declared.reply.Reply.TheVariants.{Tree, File, Opened, Slot, Handle, Memory}
 use Rattle.session_model.specs.Histories.{Histories}
+use Rattle.file_model.specs.FileLog.{entries_at}
 use Rattle.field_model.specs.CauseText.{cause_fields}
 use Rattle.field_model.specs.NodeText.{kind_letter, data_field}
-use Rattle.text_model.specs.Line.{line, number, name, path}
+use Rattle.text_model.specs.Line.{line, number, hex, name, path}
 use Rattle.job_model.specs.JobText.{image_text}
 use Rattle.served_model.specs.declared.end.ReportEnd.{ReportEnd}
 use Rattle.served_model.specs.declared.end.ReportEnd.TheVariants.{Image, Stuck}
@@ -76,6 +80,7 @@ reply_fields Slot = error (codes "slot")
 reply_fields Handle = error (codes "handle")
 reply_fields Memory = error (codes "memory")
 
+-- the fields of a call on the tree
 abbrev pub tree_call : TreeCall → List (List ℕ)
 tree_call (calls.Resolve p) = codes "resolve" ∷ path p ∷ []
 tree_call (calls.Create p) = codes "create" ∷ path p ∷ []
@@ -86,9 +91,22 @@ tree_call (calls.Rename paths) = codes "rename" ∷ path paths.old ∷ path path
 tree_call (calls.List p) = codes "list" ∷ path p ∷ []
 tree_call (calls.Stat p) = codes "stat" ∷ path p ∷ []
 
+-- and on a file
+abbrev pub file_call : FileCall → List (List ℕ)
+file_call (on_file.Attach slot) = codes "attach" ∷ number slot ∷ []
+file_call (on_file.Read slot at len) = codes "read" ∷ number slot ∷ number at ∷ number len ∷ []
+file_call (on_file.Write slot at octets) = codes "write" ∷ number slot ∷ number at ∷ hex octets ∷ []
+file_call (on_file.Truncate slot size) = codes "truncate" ∷ number slot ∷ number size ∷ []
+file_call (on_file.Size slot) = codes "size" ∷ number slot ∷ []
+file_call (on_file.Sync slot) = codes "sync" ∷ number slot ∷ []
+file_call (on_file.Detach slot) = codes "detach" ∷ number slot ∷ []
+
 -- the session, its operation, the counts of faults around the turn, the call and the reply
 abbrev pub entry_line : TreeEntry → List ℕ
 entry_line e = line ((number e.session ∷ number e.op ∷ number e.before ∷ number e.after ∷ []) ++ tree_call e.call ++ codes "=" ∷ tree_reply e.reply)
+
+abbrev pub file_entry_line : FileEntry → List ℕ
+file_entry_line e = line ((number e.session ∷ number e.op ∷ number e.before ∷ number e.after ∷ []) ++ file_call e.call ++ codes "=" ∷ file_reply e.reply)
 
 abbrev pub reply_line : Reply → List ℕ
 reply_line reply = line (reply_fields reply)
@@ -104,6 +122,24 @@ sessions_text session (replies ∷ sessions) = session_text session replies ++ s
 abbrev pub tree_text : List TreeEntry → List ℕ
 tree_text log = line (codes "tree" ∷ number (length log) ∷ []) ++ flat_map entry_line log
 
+-- a node among rising ones
+abbrev pub with_node : ℕ → List ℕ → List ℕ
+with_node node [] = node ∷ []
+with_node node (first ∷ rest) = if node == first then first ∷ rest else if nat_lt node first then node ∷ first ∷ rest else first ∷ with_node node rest
+
+-- the nodes that have entries, in rising order
+abbrev pub nodes_of : List FileEntry → List ℕ
+nodes_of [] = []
+nodes_of (e ∷ log) = with_node e.node (nodes_of log)
+
+-- the history of one file
+abbrev pub file_text : ℕ → List FileEntry → List ℕ
+file_text node log = line (codes "file" ∷ number node ∷ number (length log) ∷ []) ++ flat_map file_entry_line log
+
+-- the histories of all files that have one
+abbrev pub files_text : List FileEntry → List ℕ
+files_text log = flat_map (λ node. file_text node (entries_at node log)) (nodes_of log)
+
 -- the line of a part that failed: its number, and its counts of faults before and after
 abbrev pub stuck_line : ℕ → ℕ → ℕ → List ℕ
 stuck_line part before after = line (codes "stuck" ∷ number part ∷ number before ∷ number after ∷ [])
@@ -113,7 +149,7 @@ abbrev pub end_text : ReportEnd → List ℕ
 end_text (Image nodes) = image_text (image nodes) ++ line (codes "end" ∷ [])
 end_text (Stuck part before after) = stuck_line part before after
 
--- What a report tells: the replies of each session, the tree's history, and how the run ended. No script has calls on files yet, so no file has a history.
+-- What a report tells: the replies of each session, the histories of the tree and of all files, and how the run ended.
 pub record Report : Type 0 where
   pub sessions : List (List Reply)
   pub histories : Histories
@@ -127,4 +163,4 @@ abbrev pub stuck_text : ℕ → ℕ → ℕ → List ℕ
 stuck_text part before after = report_head ++ stuck_line part before after
 
 abbrev pub report_text : Report → List ℕ
-report_text r = report_head ++ sessions_text 0 r.sessions ++ tree_text r.histories.tree ++ end_text r.end
+report_text r = report_head ++ sessions_text 0 r.sessions ++ tree_text r.histories.tree ++ files_text r.histories.file ++ end_text r.end

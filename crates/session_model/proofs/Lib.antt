@@ -6,3 +6,4 @@ pub mod ScriptCalls
 pub mod CheckWalk
 pub mod Orders
 pub mod LegalLemmas
+pub mod OpenedNodes

@@ -1,3 +1,6 @@
-pub mod OnTreeAlone
+pub mod Growing
+pub mod Waiting
+pub mod Fitting
 pub mod Serving
 pub mod Running
+pub mod OneLog

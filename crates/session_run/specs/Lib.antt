@@ -1,3 +1,4 @@
 pub mod Turn
 pub mod Made
-pub mod OnTree
+pub mod Rooms
+pub mod Waits

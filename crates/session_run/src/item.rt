@@ -1,8 +1,12 @@
-ghost use Rattle.session_model.specs.Session.{IsWaiting};
-ghost use Rattle.session_run.specs.Made.{on_tree, ItemDone, ToldTree};
-ghost use Rattle.session_run.specs.OnTree.{IsOnTree};
+ghost use Rattle.std.specs.Prelude.{◌≡◌};
+ghost use Rattle.session_model.specs.Session.{IsReady};
+ghost use Rattle.session_run.specs.Made.{ItemDone, ToldTree};
+ghost use Rattle.session_run.specs.Rooms.{Fits};
+ghost use Rattle.session_run.specs.Waits.{WaitsForTree};
 
-use crate::TreePart;
+use crate::file_call::call_file;
+use crate::rooms::CloseRooms;
+use crate::{FilePart, TreePart};
 use session::Session;
 use session_model::{Answer, Ask};
 use std::alloc::Global;
@@ -10,8 +14,10 @@ use tree_model::TreeCall;
 
 /// Makes the call on the tree that a session waits for, and tells it the answer.
 fn call_tree<T: TreePart>(alloc: Global, tree: &mut T, session: &mut Session, call: TreeCall)
-    requires { IsWaiting session.old.session.hand }
+    requires { WaitsForTree session.old.session.hand }
     ensures told { ToldTree call (T.log tree.old) (T.log tree.new) session.old session.new }
+    ensures slots { session.new.session.slots ≡ session.old.session.slots }
+    ensures ready { IsReady session.new.session.hand }
     ensures lawful { (opening : T) → T.lawful opening tree.old → T.lawful opening tree.new }
 {
     let answer = match tree.call(alloc, session.id(), session.op(), call) {
@@ -21,20 +27,28 @@ fn call_tree<T: TreePart>(alloc: Global, tree: &mut T, session: &mut Session, ca
     session.tell(answer);
 }
 
-/// Makes the next call of a session that makes calls on the tree alone; `false` where it has ended.
-pub(crate) fn item<T: TreePart>(alloc: Global, tree: &mut T, session: &mut Session) -> bool
-    requires { IsOnTree session.old.session }
-    ensures done { ItemDone result (on_tree (T.log tree.old)) (on_tree (T.log tree.new)) session.old session.new }
-    ensures on_tree { IsOnTree session.new.session }
-    ensures lawful { (opening : T) → T.lawful opening tree.old → T.lawful opening tree.new }
+/// Makes the next call of a session, or has its next operation done that makes none; `false` where
+/// it has ended.
+pub(crate) fn item<T: TreePart, F: FilePart>(
+    alloc: Global,
+    tree: &mut T,
+    files: &mut F,
+    rooms: &mut CloseRooms,
+    session: &mut Session,
+) -> bool
+    requires ready { IsReady session.old.session.hand }
+    requires fits { Fits session.old.session.slots rooms.old.links }
+    ensures done { ItemDone result (T.log tree.old) (T.log tree.new) (F.logs files.old) (F.logs files.new) session.old session.new }
+    ensures ready { IsReady session.new.session.hand }
+    ensures fits { Fits session.new.session.slots rooms.new.links }
+    ensures tree { (opening : T) → T.lawful opening tree.old → T.lawful opening tree.new }
+    ensures files { (opening : F) → F.lawful opening files.old → F.lawful opening files.new }
 {
     match session.ask() {
-        Ask::Tree(call) => {
-            call_tree(alloc, tree, session, call);
-            true
-        }
-        Ask::End => false,
-        // Without a file that is open, each of its operations makes a call on the tree.
-        Ask::File(..) | Ask::Done => unreachable!(),
+        Ask::Tree(call) => call_tree(alloc, tree, session, call),
+        Ask::File(node, call) => call_file(alloc, files, rooms, session, node, call),
+        Ask::Done => {}
+        Ask::End => return false,
     }
+    true
 }

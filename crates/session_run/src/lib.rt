@@ -1,11 +1,13 @@
-//! A session that is run on a tree, one call after another.
+//! A session that is run on a tree and on files, one call after another.
 #![tactic(auto)]
 
+mod file_call;
 mod item;
 mod part;
+mod rooms;
 mod run;
 #[cfg(test)]
 mod tests;
 
-pub use part::TreePart;
+pub use part::{FilePart, TreePart};
 pub use run::run_session;

@@ -1,4 +1,4 @@
-use Rattle.std.proofs.Common.{◌≡◌, List, ℕ, ap, ◌∙◌, sym, subst}
+use Rattle.std.proofs.Common.{ap, ◌∙◌, sym, subst}
 use Rattle.std.specs.Prelude.{IfOk}
 use Rattle.names_model.specs.NameForm.{NameForm}
 use Rattle.names_model.specs.ShownBy.{shown_of}
@@ -6,7 +6,7 @@ use Rattle.tree_model.specs.Listing.{ListsTree}
 use Rattle.name_tag70.proofs.SameNames.{plain_form}
 use Rattle.coding_model.specs.CodedForm.{coded_form}
 use Rattle.job_model.specs.declared.job.NameCoding.{NameCoding}
-use Rattle.mount_model.specs.MountForm.{key_of, form_by, form_of_job}
+use Rattle.mount_model.specs.MountForm.{key_of, form_by}
 use Rattle.mount_run.proofs.show.job_listing.Goals as goal
 
 pub returns-in-Plain-clause-lists : goal.returns-in-Plain-clause-lists

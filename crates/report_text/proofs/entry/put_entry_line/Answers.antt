@@ -5,10 +5,7 @@ pub returns : goal.returns
 returns c =
     rw (
       entry_line-parts c.args.out.now.items c.args.entry.now,
-      ← c.in_ok-put_count.ensures {u = tt},
-      ← c.in_ok-put_count-2.ensures {u = tt},
-      ← c.in_ok-put_count-3.ensures {u = tt},
-      ← c.in_ok-put_count-4.ensures {u = tt},
+      ← c.in_ok-put_turn.ensures {u = tt},
       ← c.in_ok-put_tree_call.ensures {u = tt},
       ← c.in_ok-put_word.ensures.ok,
       ← c.in_ok-put_tree_reply.ensures {u = tt},

@@ -1,7 +1,8 @@
-use Rattle.std.proofs.Common.{◌≡◌, ap, refl, subst, sym, ◌∙◌}
+use Rattle.std.proofs.Common.{◌≡◌, ap, arith, refl, subst, sym, ◌∙◌}
 use Rattle.lower_inode.specs.Shards.{IsReplyIn, node_in, shard_of}
 use Rattle.lower_inode.specs.NodeTurn.{IsNode}
-use Rattle.lower_inode.proofs.Steps.{nodes_on, reply_in, step_at}
+use Rattle.lower_inode.proofs.Others.{nodes_on}
+use Rattle.lower_inode.proofs.Steps.{reply_in, step_at}
 use Rattle.file_model.specs.Shard.{IsShardStep}
 use Rattle.lower_inode.proofs.shard.Shard.step.Goals as goal
 
@@ -16,10 +17,11 @@ invariant_of-self g c =
     let own = c.requires.node ∙ ap (λ s. s.index) (sym c.self.view_is) in
     record {
       index = c.self.invariant.index;
-      nodes = nodes_on (g.B.LowerBodies.held c.self.inside.bodies) (g.B.LowerBodies.held c.turn_at-reply.new.bodies) c.self.inside.index c.args.node c.self.inside.nodes.items c.turn_at-reply.new.nodes.items c.self.invariant.nodes
+      few = omega (arith, c.self.invariant.few, c.turn_at-reply.ensures.most);
+      nodes = nodes_on (g.B.LowerBodies.held c.self.inside.bodies) (g.B.LowerBodies.held c.turn_at-reply.new.bodies) c.self.inside.index c.args.node c.self.inside.nodes.items c.turn_at-reply.new.nodes.items
+          c.turn_at-reply.ensures.turn.touches c.self.invariant.nodes
           (subst (λ i. IsNode (g.B.LowerBodies.held c.turn_at-reply.new.bodies) c.args.node (node_in i c.turn_at-reply.new.nodes.items c.args.node)) own c.turn_at-reply.ensures.turn.shape)
-          (λ other apart. subst (λ i. node_in i c.turn_at-reply.new.nodes.items other ≡ node_in i c.self.inside.nodes.items other) own (c.turn_at-reply.ensures.others other apart))
-          c.turn_at-reply.ensures.turn.touches.body_room c.turn_at-reply.ensures.turn.touches.attribute_room;
+          (λ other apart. subst (λ i. node_in i c.turn_at-reply.new.nodes.items other ≡ node_in i c.self.inside.nodes.items other) own (c.turn_at-reply.ensures.others other apart));
     }
 
 pub returns-clause-step : goal.returns-clause-step

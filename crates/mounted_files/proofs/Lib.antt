@@ -1,0 +1,7 @@
+mod Places
+mod Stepping
+mod Opening
+mod WritingOut
+mod Ending
+pub mod Held
+pub mod Histories
