@@ -21,22 +21,7 @@ from keys import Key
 from lower_walk import Folders, walk
 from recover_tests import body
 from testing import PROGRAM, SALT
-
-MEBIBYTE = 1 << 20
-
-
-def write(path, octets):
-    with open(path, "wb") as file:
-        file.write(octets)
-
-
-def run(command, **streams):
-    """The processor seconds of a command and of what it started, and the most memory that one of them had."""
-    process = subprocess.Popen(command, **streams)
-    _, status, usage = os.wait4(process.pid, 0)
-    if status:
-        sys.exit(f"{command} ended with status {os.waitstatus_to_exitcode(status)}")
-    return usage.ru_utime + usage.ru_stime, usage.ru_maxrss * 1024
+from timing import MEBIBYTE, on_one_processor, run, write
 
 
 def recover(room, lower, target):
@@ -86,7 +71,7 @@ def small_files(room, is_coded):
     print(f"ratio {times[1] / times[0]:.2f}; a second start {again:.1f} s")
 
 
-os.sched_setaffinity(0, {min(os.sched_getaffinity(0))})
+on_one_processor()
 with tempfile.TemporaryDirectory() as place:
     write(f"{place}/passphrase", b"test")
     large_files(place)

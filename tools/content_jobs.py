@@ -2,23 +2,23 @@
 
 Their lower names stand in the jobs as they are, as plain names: what a file decodes to doesn't depend on its name.
 """
-import itertools
 import os
 from binascii import unhexlify
-from dataclasses import dataclass
 
-from lower_walk import CHANGED, FILE_ONLY, Entry, Folders, Kind, unreadable
+from lower_walk import CHANGED, FILE_ONLY, Folders, Kind, unreadable
 from metadata import attribute_of
-from show_jobs import PIECE, Failed, ShowJobs, refusal
+from program_jobs import PIECE, Failed
+from room import Room, Written
+from show_jobs import ShowJobs
 from texts import MOST_ENTRIES, attribute_field, body_length, entry_head, image_head, job_end, job_head, path_of
-
-MOST_BATCH = 67_108_864
 
 # ---- batches ----
 
 
 class Batch:
     """Entries that go through the program in one job, with the directories above them, in preorder."""
+
+    most_octets = 67_108_864
 
     def __init__(self, own=()):
         self.own, self.nodes, self.members, self.octets = [], [], set(), 0
@@ -35,7 +35,7 @@ class Batch:
 
     def has_room(self, entry):
         """Whether the entry fits into the batch; one entry alone always does."""
-        fits = not self.own or self.octets + entry.octets <= MOST_BATCH
+        fits = not self.own or self.octets + entry.octets <= self.most_octets
         return fits and len(self.nodes) + len(self.missing(entry)) <= MOST_ENTRIES
 
     def add(self, entry):
@@ -49,16 +49,16 @@ class Batch:
     def halves(self):
         """Two batches with the same entries."""
         middle = len(self.own) // 2
-        return Batch(self.own[:middle]), Batch(self.own[middle:])
+        return type(self)(self.own[:middle]), type(self)(self.own[middle:])
 
 
-def batches_of(entries):
+def batches_of(entries, kind=Batch):
     """The batches of these entries, which stand in preorder."""
-    batch = Batch()
+    batch = kind()
     for entry in entries:
         if batch.own and not batch.has_room(entry):
             yield batch
-            batch = Batch()
+            batch = kind()
         batch.add(entry)
     if batch.own:
         yield batch
@@ -69,7 +69,7 @@ def batches_of(entries):
 
 def head_of(entry):
     """The fields of an entry in front of its attribute."""
-    return entry_head(entry.level, entry.kind is not Kind.DIRECTORY, entry.lower_name)
+    return entry_head(entry.level, entry.kind is not Kind.DIRECTORY, entry.source_name)
 
 
 def length_of(entry):
@@ -101,18 +101,23 @@ def body_pieces(entry, file):
         yield piece
 
 
-def file_pieces(entry, folders):
-    """The attribute of a file and then the pieces of its body; Unread where it isn't as the walk found it."""
+def lower_pieces(entry, file):
+    """The attribute of an open lower file and then the pieces of its body."""
+    attribute = attribute_of(file)
+    if (None if attribute is None else len(attribute)) != entry.attribute:
+        raise Unread(CHANGED)
+    yield attribute
+    yield from body_pieces(entry, file)
+
+
+def file_pieces(entry, folders, pieces_of=lower_pieces):
+    """What `pieces_of` reads of a file; Unread where it isn't as the walk found it."""
     file = None
     try:
         folder, name = folders.above(entry.path)
         file = os.open(name, FILE_ONLY, dir_fd=folder)
         check_unchanged(entry, file)
-        attribute = attribute_of(file)
-        if (None if attribute is None else len(attribute)) != entry.attribute:
-            raise Unread(CHANGED)
-        yield attribute
-        yield from body_pieces(entry, file)
+        yield from pieces_of(entry, file)
         check_unchanged(entry, file)
     except OSError as error:
         raise Unread(unreadable(error)) from None
@@ -157,16 +162,6 @@ def job_pieces(batch, key, folders, faults):
 # ---- what the program tells ----
 
 
-@dataclass(slots=True)
-class Written:
-    """What became of a file: the number under which it was written, or why it wasn't."""
-
-    entry: Entry
-    why: str | None = None
-    number: int | None = None
-    is_good: bool = False
-
-
 def content_pieces(stream, digits, size):
     """The content of a good line, of whose digits these stand there already; the whole line is read."""
     if digits[-1:] == b"\n":
@@ -189,22 +184,12 @@ def content_pieces(stream, digits, size):
         raise Failed
 
 
-def write_piece(file, piece):
-    """Writes a piece; gives why the target refuses it."""
-    try:
-        while piece:
-            piece = piece[os.write(file, piece) :]
-    except OSError as error:
-        return refusal(error)
-    return None
-
-
 class ContentJobs(ShowJobs):
     """Runs batches of files, whose contents come into the open folder `room`."""
 
     def __init__(self, program, key, lower, room):
         super().__init__(program, key)
-        self.lower, self.room, self.numbers = lower, room, itertools.count(1)
+        self.lower, self.room = lower, Room(room)
 
     def without(self, entry, why):
         """What is told of a file on which the program fails."""
@@ -227,39 +212,18 @@ class ContentJobs(ShowJobs):
             return None
         written = Written(entry)
         if line["size"] is not None:
-            self.write(written, content_pieces(stream, digits, int(line["size"])))
+            self.room.write(written, content_pieces(stream, digits, int(line["size"])))
             written.is_good = written.why is None
         elif line["word"] == b"empty\n":
-            self.write(written, [])
+            self.room.write(written, [])
         else:
             written.why = line["word"][:-1].decode()
         return written
 
-    def write(self, written, pieces):
-        """Writes a file under a number; where the target refuses it, the pieces are taken all the same."""
-        written.number, file = next(self.numbers), None
-        try:
-            file = os.open(b"%d" % written.number, os.O_WRONLY | os.O_CREAT | os.O_EXCL, 0o600, dir_fd=self.room)
-        except OSError as error:
-            written.why = refusal(error)
-        for piece in pieces:
-            if written.why is None:
-                written.why = write_piece(file, memoryview(piece))
-        if file is not None:
-            os.close(file)
-
     def settle(self, told, faults):
         """What was told, where the files that couldn't be read are left out."""
-        for written in told:
-            written.why = faults.get(written.entry, written.why)
-        self.discard(written for written in told if written.why)
-        return told
+        return self.room.settle(told, faults)
 
     def discard(self, told):
         """Removes what was written for these files."""
-        for written in told:
-            if written.number is not None:
-                try:
-                    os.unlink(b"%d" % written.number, dir_fd=self.room)
-                except FileNotFoundError:
-                    pass
+        self.room.discard(told)

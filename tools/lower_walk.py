@@ -1,12 +1,12 @@
-"""The walk over a lower tree, and where its entries come in the target.
+"""The walk over a lower tree, or over a plain folder, and where its entries come in the target.
 
-Nothing here writes to the lower tree, and nothing follows a link in it: each directory is opened from the root on, part by part.
+Nothing here writes to the tree, and nothing follows a link in it: each directory is opened from the root on, part by part.
 """
 import os
 import stat
 from dataclasses import dataclass, field
 from enum import Enum, auto
-from typing import NamedTuple
+from typing import Callable, NamedTuple
 
 from keys import Seals
 from metadata import METADATA_ROOM, MOST_BODY, MOST_CONTENT, attribute_of, metadata_of
@@ -43,7 +43,7 @@ class Found(NamedTuple):
 
 @dataclass(slots=True, eq=False)
 class Entry:
-    """One name in the lower tree, as the walk found it."""
+    """One name in the tree, as the walk found it."""
 
     path: bytes
     parent: "Entry | None"
@@ -56,18 +56,18 @@ class Entry:
     is_encrypted: bool = False  # whether it has metadata
     name: bytes | None = None  # its upper name, where that isn't its lower one
     no_name: str | None = None  # why it has no upper name
-    upper: bytes | None = None  # its path in the target, once that is known
+    target_path: bytes | None = None  # its path in the target, once that is known
     ours: bool = False  # whether it stands in the target, written by this program
 
     @property
-    def lower_name(self):
+    def source_name(self):
         """The last part of its path."""
         return os.path.basename(self.path)
 
     @property
     def target_name(self):
         """The last part of its path in the target; where it has no upper name, as a show text tells it."""
-        return self.lower_name if self.no_name else self.name or self.lower_name
+        return self.source_name if self.no_name else self.name or self.source_name
 
     @property
     def cause(self):
@@ -142,6 +142,7 @@ def unreadable(error):
 class LowerTree:
     """The entries in preorder, those of a directory in octet order; what they are sealed with; where each file is read."""
 
+    look: Callable
     entries: list = field(default_factory=list)
     seals: Seals = field(default_factory=Seals)
     firsts: dict = field(default_factory=dict)
@@ -169,10 +170,20 @@ def look_into(tree, entry, folder, name):
         return
     entry.is_encrypted = True
     tree.seals.add_file(metadata)
-    if metadata.size > MOST_CONTENT:
-        entry.why = f"too large: {metadata.size} octets"
+    set_size(entry, metadata.size)
+
+
+def set_size(entry, size):
+    """Sets how many octets the content of a file has, or that it is too large."""
+    if size > MOST_CONTENT:
+        entry.why = f"too large: {size} octets"
     else:
-        entry.size = metadata.size
+        entry.size = size
+
+
+def take_size(tree, entry, folder, name):
+    """As `look_into`, of a file that is its own content."""
+    set_size(entry, entry.found.st_size)
 
 
 def entry_at(tree, parent, folder, name, device):
@@ -196,7 +207,7 @@ def entry_at(tree, parent, folder, name, device):
         entry.first = None if first is entry else first
     if entry.first is None:
         try:
-            look_into(tree, entry, folder, name)
+            tree.look(tree, entry, folder, name)
         except OSError as error:
             entry.why = unreadable(error)
     return entry
@@ -215,14 +226,14 @@ def entries_in(tree, parent, folders, device):
     return [entry_at(tree, parent, folder, name, device) for name in names]
 
 
-def walk(root, tell=lambda count: None):
-    """The tree below the open directory `root`; `tell` is called with the number of entries now and then."""
-    tree, folders, device = LowerTree(), Folders(root), os.fstat(root).st_dev
+def walk(root, tell=lambda count: None, look=look_into):
+    """The tree below the open directory `root`, whose files `look` reads; `tell` gets the number of entries now and then."""
+    tree, folders, device = LowerTree(look), Folders(root), os.fstat(root).st_dev
     waiting = entries_in(tree, None, folders, device)[::-1]
     while waiting:
         entry = waiting.pop()
         tree.entries.append(entry)
-        tree.seals.add_name(entry.lower_name)
+        tree.seals.add_name(entry.source_name)
         if len(tree.entries) % 1000 == 0:
             tell(len(tree.entries))
         if entry.kind is Kind.DIRECTORY and entry.level == MOST_ENTRIES:
@@ -251,14 +262,14 @@ def set_paths(tree):
     """Gives each entry its path in the target, from the upper names; of several equal ones in a directory the first has it."""
     taken = set()
     for entry in tree.entries:
-        front = entry.parent.upper + b"/" if entry.parent else b""
+        front = entry.parent.target_path + b"/" if entry.parent else b""
         if entry.parent is not None and entry.parent.no_name:
             entry.no_name = BELOW_FOREIGN
         elif front + entry.target_name in taken:
             entry.no_name = FOREIGN
-        entry.upper = front + entry.target_name
+        entry.target_path = front + entry.target_name
         if entry.no_name is None:
-            taken.add(entry.upper)
+            taken.add(entry.target_path)
     for entry in tree.entries:
         if entry.first is not None:
             hand_over(tree, entry)

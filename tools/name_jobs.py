@@ -4,7 +4,8 @@ from dataclasses import dataclass
 
 from lower_walk import FOREIGN, Entry
 from names import is_coded
-from show_jobs import Failed, ShowJobs
+from program_jobs import Failed
+from show_jobs import ShowJobs
 from texts import MOST_ENTRIES, attribute_field, body_length, entry_head, image_head, job_end, job_head, path_of
 
 
@@ -32,7 +33,7 @@ def by_directories(entries):
     directories = defaultdict(list)
     for entry in entries:
         directories[entry.parent].append(entry)
-    return [group for group in directories.values() if any(is_coded(entry.lower_name) for entry in group)]
+    return [group for group in directories.values() if any(is_coded(entry.source_name) for entry in group)]
 
 
 def name_batches_of(entries):
@@ -75,7 +76,7 @@ class NameJobs(ShowJobs):
         empty = attribute_field(None) + body_length(0)
         image = [image_head(len(batch.nodes))]
         for group, entry in batch.nodes:
-            image.append(entry_head(1, False, group_name(group)) if entry is None else entry_head(2, True, entry.lower_name) + empty)
+            image.append(entry_head(1, False, group_name(group)) if entry is None else entry_head(2, True, entry.source_name) + empty)
         yield job_head(self.key, "tag70", sum(map(len, image))) + b"".join(image) + job_end()
 
     def take(self, batch, line, digits, stream):

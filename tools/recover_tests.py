@@ -7,7 +7,6 @@ The last line is `recover: N passed, M failed`, and the status is 1 where any te
 cipher text of some content, which one run of `show` tells.
 """
 import argparse
-import importlib.util
 import os
 import pty
 import shutil
@@ -18,16 +17,15 @@ import subprocess
 import sys
 import tempfile
 import unittest
-from importlib.machinery import SourceFileLoader
 from unittest import mock
 
+from checks import ecryptfs_devices, jobs_for
 from content_jobs import batches_of
 from lower_walk import Entry, Found, Kind
-from testing import LINUX, PROGRAM, SALT, TOOLS, TOP, drawn, read, run_over_program, signature
+from testing import LINUX, PROGRAM, SALT, SECONDS, TOOLS, TOP, InRoom, drawn, read, run_over_program, signature
 
 OTHER_SALT = bytes.fromhex("8899aabbccddeeff")
 SIZES = [0, 1, 4096, 5000, 70_000]
-SECONDS = 100
 SIGNATURES = {salt: signature(salt) for salt in (SALT, OTHER_SALT)}
 
 
@@ -46,7 +44,7 @@ def body(size, **words):
 BODIES = {size: body(size) for size in SIZES}
 
 
-class Recover(unittest.TestCase):
+class Recover(InRoom):
     contents = {}
 
     @classmethod
@@ -67,39 +65,14 @@ class Recover(unittest.TestCase):
         rows = [line.split() for line in shown.splitlines() if line.startswith(b"f ")]
         Recover.contents = {int(row[2][1:]): bytes.fromhex(row[5].decode().strip("-")) for row in rows}
 
-    def setUp(self):
-        room = tempfile.TemporaryDirectory()
-        self.addCleanup(room.cleanup)
-        self.room = room.name
-        self.write("passphrase", b"test\n")
-
-    def at(self, name):
-        return os.path.join(os.fsencode(self.room), os.fsencode(name))
-
-    def write(self, name, octets):
-        os.makedirs(os.path.dirname(self.at(name)), exist_ok=True)
-        with open(self.at(name), "wb") as file:
-            file.write(octets)
-        return self.at(name)
-
     def lower(self, *sizes):
         """A small lower tree: a file of each size, and one below a directory."""
         for size in sizes or (1, 5000):
             self.write(f"lower/{size}", BODIES[size])
             self.write(f"lower/sub/{size}", BODIES[size])
 
-    def program(self, script):
-        """A program that is this shell script; $program is the built one, and $calls counts its calls."""
-        text = f"#!/bin/sh\nprogram={PROGRAM}\ncd {self.room}\necho >> calls\ncalls=$(wc -l < calls)\n{script}\n"
-        os.chmod(self.write("program", text.encode()), 0o755)
-        return ["--program", self.at("program")]
-
-    def run_tool(self, *words, within=(), patch="", given=b""):
-        """Runs the tool; `patch` are lines of Python that stand in front of it, in place of calls of the system."""
-        tool = os.path.join(TOOLS, "recover")
-        patched = f"import os, runpy, sys\nsys.path.insert(0, {TOOLS!r})\n{patch}\nrunpy.run_path({tool!r}, run_name='__main__')"
-        command = [*within, sys.executable, *(["-c", patched] if patch else [tool]), "--program", PROGRAM, *words]
-        return subprocess.run(command, capture_output=True, cwd=self.room, input=given, timeout=SECONDS, start_new_session=True)
+    def run_tool(self, *words, **more):
+        return self.run_named("recover", *words, **more)
 
     def recover(self, *words, lower="lower", target="home", **more):
         return self.run_tool("--passphrase-file", self.at("passphrase"), "--jobs", "2", lower, target, *words, **more)
@@ -438,12 +411,6 @@ class Refusals(Recover):
 class Parts(unittest.TestCase):
     """What no run shows."""
 
-    @classmethod
-    def setUpClass(cls):
-        loader = SourceFileLoader("recover", os.path.join(TOOLS, "recover"))
-        cls.recover = importlib.util.module_from_spec(importlib.util.spec_from_loader("recover", loader))
-        loader.exec_module(cls.recover)
-
     def test_batches_are_within_their_bounds(self):
         entry = lambda path, parent, kind, size: Entry(path, parent, kind, Found(1, size, 0, 0, 0, 0, 0, 0))
         above = None
@@ -460,15 +427,15 @@ class Parts(unittest.TestCase):
 
     def test_an_ecryptfs_is_found_among_the_mounts(self):
         rows = ["36 35 98:0 / / rw - ext4 /dev/sda rw", "40 36 0:52 / /home/u rw shared:1 master:2 - ecryptfs /home/.ecryptfs rw"]
-        self.assertEqual(self.recover.ecryptfs_devices(rows), {"0:52"})
+        self.assertEqual(ecryptfs_devices(rows), {"0:52"})
 
     def test_programs_are_within_the_processors_and_half_of_the_memory(self):
         gibibyte, wanted = 1 << 30, {(8, 2): 2, (8, 64): 8, (4, 0.5): 1, (1, 64): 1}
         for (processors, memory), count in wanted.items():
             sizes = {"SC_PAGE_SIZE": 4096, "SC_PHYS_PAGES": int(memory * gibibyte) // 4096}
             with mock.patch("os.sysconf", sizes.get), mock.patch("os.sched_getaffinity", lambda process: range(processors)):
-                self.assertEqual(self.recover.jobs_for(argparse.Namespace(jobs=None)), count)
-                self.assertEqual(self.recover.jobs_for(argparse.Namespace(jobs=3)), 3)
+                self.assertEqual(jobs_for(argparse.Namespace(jobs=None), 1 << 29), count)
+                self.assertEqual(jobs_for(argparse.Namespace(jobs=3), 1 << 29), 3)
 
 
 class Again(Recover):

@@ -6,11 +6,10 @@ import stat
 from dataclasses import dataclass
 
 from lower_walk import Folders, Kind
-from show_jobs import TargetFull, refusal
+from program_jobs import TargetFull, refusal
 from texts import Refused, path_of, spelled_path
 
-HEAD = re.compile(rb"recover-record 1 (?P<room>\.recover-[0-9a-f]{8})")
-RECORDED = re.compile(rb"(?:d|f (?P<size>[0-9]{1,20}) (?P<time>-?[0-9]{1,30})) (?P<lower>/[^ ]+) (?P<upper>/[^ ]+)")
+RECORDED = re.compile(rb"(?:d|f (?P<size>[0-9]{1,20}) (?P<time>-?[0-9]{1,30})) (?P<source>/[^ ]+) (?P<target>/[^ ]+)")
 ROOT_LINE = b"d / /"
 THERE = "in the way in the target"
 NO_SET_ID = 0o7777 & ~(stat.S_ISUID | stat.S_ISGID)
@@ -18,18 +17,22 @@ NO_SET_ID = 0o7777 & ~(stat.S_ISUID | stat.S_ISGID)
 
 @dataclass(frozen=True)
 class Recorded:
-    """What the record has of a lower path: its size and time where it is a file, and the path in the target."""
+    """What the record has of a path in the source: its size and time where it is a file, and the path in the target."""
 
     size: int | None
     time: int | None
-    upper: bytes
+    target_path: bytes
 
 
 class Record:
-    """The file that tells what this program wrote into a target, so that a second start goes on from there."""
+    """The file that tells what a tool wrote into a target, so that a second start goes on from there.
 
-    def __init__(self, path):
-        self.path, self.known, self.room, self.has_root, self.length, self.file = path, {}, None, False, 0, None
+    `about` is what else its first line tells: under another one nothing goes on.
+    """
+
+    def __init__(self, path, tool, about=""):
+        self.path, self.tool, self.about = path, tool.encode(), about.encode()
+        self.known, self.room, self.has_root, self.length, self.file = {}, None, False, 0, None
         try:
             self.file = os.open(path, os.O_RDWR | os.O_APPEND | os.O_NOFOLLOW)
         except FileNotFoundError:
@@ -39,12 +42,19 @@ class Record:
             # (a last line that is cut was never acted on)
             lines = opened.read().rpartition(b"\n")[0].split(b"\n")
         self.length = sum(len(line) + 1 for line in lines)
-        head = HEAD.fullmatch(lines[0])
-        if head is None:
-            raise Refused(f"{spelled_path(path)}: it is no record of this program")
-        self.room = head["room"]
+        self.read_head(lines[0])
         for line in lines[1:]:
             self.read_line(line)
+
+    def read_head(self, line):
+        """Takes the first line."""
+        found = re.fullmatch(rb"%b-record 1 (?P<room>\.%b-[0-9a-f]{8})(?: (?P<about>.*))?" % (self.tool, self.tool), line)
+        if found is None:
+            raise Refused(f"{spelled_path(self.path)}: it is no record of this program")
+        about = found["about"] or b""
+        if about != self.about:
+            raise Refused(f"{spelled_path(self.path)}: it is the record of a tree with {about.decode()}, not {self.about.decode()}")
+        self.room = found["room"]
 
     def lock(self):
         """Keeps other starts away from the record."""
@@ -62,15 +72,15 @@ class Record:
             raise Refused(f"{spelled_path(self.path)}: it is no record of this program")
         else:
             number = lambda name: None if found[name] is None else int(found[name])
-            self.known[path_of(found["lower"])] = Recorded(number("size"), number("time"), path_of(found["upper"]))
+            self.known[path_of(found["source"])] = Recorded(number("size"), number("time"), path_of(found["target"]))
 
     def begin(self):
         """Makes the file where there was none, and cuts off a last line that isn't whole."""
         if self.file is None:
             self.file = os.open(self.path, os.O_RDWR | os.O_APPEND | os.O_CREAT | os.O_EXCL | os.O_NOFOLLOW, 0o600)
             self.lock()
-            self.room = b".recover-" + os.urandom(4).hex().encode()
-            self.write(b"recover-record 1 " + self.room)
+            self.room = b".%b-%b" % (self.tool, os.urandom(4).hex().encode())
+            self.write(b" ".join([self.tool + b"-record", b"1", self.room, *filter(None, [self.about])]))
         os.truncate(self.file, self.length)
 
     def remove_new(self):
@@ -90,7 +100,7 @@ class Record:
 
     def add(self, entry):
         """Adds what is about to stand in the target."""
-        paths = f"/{spelled_path(entry.path)} /{spelled_path(entry.upper)}".encode()
+        paths = f"/{spelled_path(entry.path)} /{spelled_path(entry.target_path)}".encode()
         is_directory = entry.kind is Kind.DIRECTORY
         self.write(b"d " + paths if is_directory else b"f %d %d " % (entry.found.st_size, entry.found.st_mtime_ns) + paths)
 
@@ -122,10 +132,10 @@ class Target:
     def is_done(self, entry):
         """Whether the record has the entry as it is now, and it stands there."""
         known = self.record.known.get(entry.path)
-        if known is None or known.upper != entry.upper or entry.found is None or entry.why and entry.kind is Kind.DIRECTORY:
+        if known is None or known.target_path != entry.target_path or entry.found is None or entry.why and entry.kind is Kind.DIRECTORY:
             return False
         now = (None, None) if entry.kind is Kind.DIRECTORY else (entry.found.st_size, entry.found.st_mtime_ns)
-        standing = self.standing(known.upper) if now == (known.size, known.time) else None
+        standing = self.standing(known.target_path) if now == (known.size, known.time) else None
         entry.ours = standing is not None and stat.S_IFMT(standing.st_mode) == stat.S_IFMT(entry.found.st_mode)
         return entry.ours
 
@@ -169,7 +179,7 @@ class Target:
 
     def change(self, entry, work):
         """Does `work` with the open directory above an entry's path and the last part of the path."""
-        folder, name = self.folders.above(entry.upper)
+        folder, name = self.folders.above(entry.target_path)
         try:
             work(folder, name)
         except PermissionError:
@@ -182,11 +192,11 @@ class Target:
     def is_known(self, entry):
         """Whether an earlier start put the entry at its path."""
         known = self.record.known.get(entry.path)
-        return known is not None and known.upper == entry.upper
+        return known is not None and known.target_path == entry.target_path
 
     def make_directory(self, entry):
         """Makes a directory; gives why it isn't made."""
-        standing = self.standing(entry.upper)
+        standing = self.standing(entry.target_path)
         if standing is not None and not (self.is_known(entry) and stat.S_ISDIR(standing.st_mode)):
             return THERE
         if standing is None:
@@ -204,7 +214,7 @@ class Target:
 
     def place(self, entry, put):
         """Puts a file at its path by `put`, which gets the open directory and the name; gives why it isn't put."""
-        standing = self.standing(entry.upper)
+        standing = self.standing(entry.target_path)
         if standing is not None and not self.is_own_file(entry, standing):
             return THERE
         try:
@@ -230,7 +240,7 @@ class Target:
             return "another name of a file that was left out"
         first = Folders(self.root)
         try:
-            above, old = first.above(entry.first.upper)
+            above, old = first.above(entry.first.target_path)
             return self.place(entry, lambda folder, name: link_over(old, above, name, folder))
         finally:
             first.close()
@@ -263,7 +273,7 @@ class Target:
         for entry in reversed(entries):
             if entry.kind is Kind.DIRECTORY and entry.ours:
                 try:
-                    folder, name = self.folders.above(entry.upper)
+                    folder, name = self.folders.above(entry.target_path)
                     self.mark(name, folder, entry.found)
                 except OSError:
                     self.refused_marks += 1

@@ -11,6 +11,7 @@ MOST_ATTRIBUTE = 65_536
 MOST_JOB = 268_435_456
 MOST_PASSPHRASE = 64
 USUAL_SALT = b"0011223344556677"
+SCRIPT_END = b"schedule\nend\n"
 NODE = re.compile(rb"[1-9][0-9]{0,3}")
 # The octets that don't stand for themselves in a name.
 NO_SIGN = re.compile(rb"[^!-~]|[%/]", re.DOTALL)
@@ -81,24 +82,29 @@ def body_length(length):
     return struct.pack(">I", length)
 
 
-def job_head(key, names, image_length):
-    """The lines of a job that stand in front of its image."""
+def job_head(key, names, image_length, meta="header"):
+    """The lines of a job that stand in front of its image; its random octets are its own."""
     lines = [
         "ecryptfs-job 1",
         f"passphrase {key.passphrase.hex()}",
         f"salt {key.salt.hex()}",
         f"namesalt {key.name_salt.hex()}",
         f"names {names}",
-        "meta header",
+        f"meta {meta}",
         f"random {os.urandom(32).hex()}",
         f"image {image_length}",
     ]
     return "".join(line + "\n" for line in lines).encode()
 
 
+def script_head(lines):
+    """What stands between the image and a script of so many lines, in a job of one session."""
+    return b"\nsessions 1\nscript %d\n" % lines
+
+
 def job_end(script=b""):
     """What stands behind the image, in a job of one session with the lines of this script."""
-    return b"\nsessions 1\nscript %d\n" % script.count(b"\n") + script + b"schedule\nend\n"
+    return script_head(script.count(b"\n")) + script + SCRIPT_END
 
 
 # ---- passphrase and salt ----
@@ -118,9 +124,11 @@ def held_by(file):
         return opened.read().removesuffix(b"\n")
 
 
-def read_passphrase(file):
+def read_passphrase(file, is_asked_twice=False):
     """The passphrase in this file, or asked for where there is none."""
     passphrase = held_by(file) if file else asked("passphrase: ")
+    if is_asked_twice and not file and asked("passphrase again: ") != passphrase:
+        raise Refused("the two passphrases differ")
     if not 1 <= len(passphrase) <= MOST_PASSPHRASE:
         raise Refused(f"a passphrase has 1 to {MOST_PASSPHRASE} octets")
     return passphrase
