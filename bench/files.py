@@ -11,6 +11,7 @@ import random
 import subprocess
 import sys
 
+from timing import MEBIBYTE, run
 from tree import EMPTY_IMAGE, Bench
 
 PIECE = 65_536
@@ -57,11 +58,9 @@ def random_places(count):
 
 
 def encrypting_seconds(ciphers, length):
-    """Processor seconds that `cipher_bench` takes to encrypt so many octets."""
-    start = os.times()
-    subprocess.run([ciphers, "encrypt", str(round(length / 2**20))], stdout=subprocess.DEVNULL, check=True)
-    end = os.times()
-    return end.children_user + end.children_system - start.children_user - start.children_system
+    """Processor seconds that `cipher_bench` takes to encrypt so many octets, without its start; the least of several runs."""
+    seconds = lambda mebibytes: min(run([ciphers, "encrypt", str(mebibytes)], stdout=subprocess.DEVNULL)[0] for _ in range(3))
+    return (seconds(64) - seconds(0)) * length / (64 * MEBIBYTE)
 
 
 def compare(bench, name, make, work):

@@ -5,7 +5,7 @@
                                              CIPHERS by default crates/cipher_bench/out/cipher_bench
 
 A time is processor time, of Python and of the programs that it starts. The aim is a quarter of the rate of `cipher_bench encrypt`.
-It takes some 2 GB in the folder for temporary files.
+It takes some 3 GB in the folder for temporary files.
 """
 import os
 import subprocess
