@@ -1,1 +1,2 @@
 pub mod EntriesInARow
+pub mod EntryLengths

@@ -1,8 +1,8 @@
-ghost use Rattle.std.specs.Prelude.{◌≡◌, ◌<◌, ◌≤◌, ◌^◌, ◌++◌, List, length, OnOk, IfOk};
+ghost use Rattle.std.specs.Prelude.{◌≡◌, ◌<◌, ◌≤◌, ◌^◌, ◌∷◌, ◌++◌, List, length, OnOk, IfOk};
 ghost use Rattle.lower_model.specs.declared.node.LowerNode.{LowerNode};
 ghost use Rattle.octet_model.specs.Octets.{AreOctets};
 ghost use Rattle.lower_model.specs.LowerTree.{HoldsOctets, IsLowerTree, AreEntries, level_in, root_path};
-ghost use Rattle.image_model.specs.ImageText.{file_octets, entry, entries, image, kind_code as code_of_kind, sized};
+ghost use Rattle.image_model.specs.ImageText.{file_octets, entry, entries, image, root, kind_code as code_of_kind, sized};
 
 use crate::path::{go_behind, path_of_root};
 use lower_tree::{Kind, LowerNode, LowerTree, MOST_ENTRIES, OpenDir};
@@ -85,17 +85,41 @@ fn put_entries(alloc: Global, out: &mut Vec<u8>, nodes: &[LowerNode]) -> Result<
     Ok(())
 }
 
+fn put_counted(alloc: Global, out: &mut Vec<u8>, nodes: &[LowerNode]) -> Result<(), AllocError>
+    requires few { length nodes.now ≤ MOST_ENTRIES }
+    requires entries { AreEntries root_path 1 nodes.now }
+    ensures { OnOk result (out.new.items ≡ out.old.items ++ image (root ∷ nodes.now)) }
+{
+    out.extend_from_slice(b"ECRYIMG1")?;
+    out.extend_from_slice(&(nodes.len() as u32).to_be_bytes())?;
+    put_entries(alloc, out, nodes)?;
+    Ok(())
+}
+
+fn put_nodes(alloc: Global, out: &mut Vec<u8>, nodes: &[LowerNode]) -> Result<(), AllocError>
+    requires { IsLowerTree nodes.now }
+    ensures { OnOk result (out.new.items ≡ out.old.items ++ image nodes.now) }
+{
+    match nodes {
+        [] => Ok(()),
+        [_, entries @ ..] => put_counted(alloc, out, entries),
+    }
+}
+
 fn write_nodes(alloc: Global, nodes: &[LowerNode]) -> Result<Vec<u8>, AllocError>
     requires { IsLowerTree nodes.now }
     ensures { IfOk result (λ octets. octets.items ≡ image nodes.now) }
 {
     let mut out = Vec::new(alloc);
-    if let [_, entries @ ..] = nodes {
-        out.extend_from_slice(b"ECRYIMG1")?;
-        out.extend_from_slice(&(entries.len() as u32).to_be_bytes())?;
-        put_entries(alloc, &mut out, entries)?;
-    }
+    put_nodes(alloc, &mut out, nodes)?;
     Ok(out)
+}
+
+/// Adds the image of a lower tree behind what stands there.
+pub fn append_image(alloc: Global, out: &mut Vec<u8>, tree: &LowerTree) -> Result<(), AllocError>
+    ensures { OnOk result (out.new.items ≡ out.old.items ++ image tree.now) }
+{
+    put_nodes(alloc, out, tree.nodes())
 }
 
 /// The image of a lower tree.

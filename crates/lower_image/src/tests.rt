@@ -1,5 +1,5 @@
 use crate::ImageKind::{Cut, Level, Magic, Order};
-use crate::{ImageError, ImageFault, read_image, write_image};
+use crate::{ImageError, ImageFault, append_image, image_length, read_image, write_image};
 use lower_tree::Kind;
 use std::test::Fail;
 
@@ -21,6 +21,16 @@ fn reads_and_writes_a_file_in_a_directory(rt: HostRuntime) -> Result<(), Fail> {
         write_image(rt.alloc(), &tree)?.as_slice(),
         FILE_IN_A_DIRECTORY
     );
+    assert_eq!(rt; image_length(&tree), FILE_IN_A_DIRECTORY.len());
+    Ok(())
+}
+
+#[test]
+fn adds_an_image_behind_what_stands_there(rt: HostRuntime) -> Result<(), Fail> {
+    let tree = read_image(rt.alloc(), b"ECRYIMG1\0\0\0\0")?;
+    let mut out = Vec::from_slice(rt.alloc(), b"front ")?;
+    append_image(rt.alloc(), &mut out, &tree)?;
+    assert_eq!(rt; out.as_slice(), b"front ECRYIMG1\0\0\0\0".as_slice());
     Ok(())
 }
 

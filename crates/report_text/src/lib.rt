@@ -9,6 +9,7 @@ mod file_entry;
 mod files;
 mod reply;
 mod report;
+mod room;
 mod show;
 
 pub use report::{write_report, write_stuck};

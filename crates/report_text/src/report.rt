@@ -1,6 +1,7 @@
 ghost use Rattle.std.specs.Prelude.{◌≡◌, ◌∷◌, ◌++◌, [], List, map, IfOk, OnOk};
 ghost use Rattle.std.specs.List.{flat_map};
 ghost use Rattle.text_model.specs.Line.{line, number};
+ghost use Rattle.image_model.specs.ImageText.{image};
 ghost use Rattle.job_model.specs.JobText.{image_text};
 ghost use Rattle.session_model.specs.declared.entry.FileEntry.{FileEntry};
 ghost use Rattle.file_model.specs.FileLog.{AreShardLogs};
@@ -9,8 +10,10 @@ ghost use Rattle.served_model.specs.ReportText.{reply_line, session_text, sessio
 use crate::entry::put_entry_line;
 use crate::files::{entries_by_node, put_files};
 use crate::reply::put_reply_line;
+use crate::room::report_room;
 use line_writer::{put_line_end, put_number, put_space, put_word};
-use lower_image::write_image;
+use lower_image::{append_image, image_length};
+use lower_tree::LowerTree;
 use served_model::ReportEnd;
 use session::Session;
 use session_model::{FileEntry, Reply, TreeEntry};
@@ -78,11 +81,14 @@ fn put_tree(out: &mut Vec<u8>, log: &[&TreeEntry]) -> Result<(), AllocError>
     put_entries(out, log)
 }
 
-fn put_image(out: &mut Vec<u8>, octets: &[u8]) -> Result<(), AllocError>
-    ensures { OnOk result (out.new.items ≡ out.old.items ++ image_text octets.now) }
+fn put_image(alloc: Global, out: &mut Vec<u8>, tree: &LowerTree) -> Result<(), AllocError>
+    ensures { OnOk result (out.new.items ≡ out.old.items ++ image_text (image tree.now)) }
 {
-    put_count_line(out, "image", octets.len())?;
-    out.extend_from_slice(octets)?;
+    let length = image_length(tree);
+    put_count_line(out, "image", length)?;
+    // Where the room is short, it grows by the image, and isn't doubled.
+    out.reserve_exact(length.saturating_add("\nend\n".len()))?;
+    append_image(alloc, out, tree)?;
     put_line_end(out)
 }
 
@@ -104,7 +110,7 @@ fn put_end(alloc: Global, out: &mut Vec<u8>, end: &ReportEnd) -> Result<(), Allo
 {
     match end {
         ReportEnd::Image(tree) => {
-            put_image(out, &write_image(alloc, tree)?)?;
+            put_image(alloc, out, tree)?;
             put_word(out, "end\n")
         }
         ReportEnd::Stuck {
@@ -133,7 +139,8 @@ pub fn write_report(
 {
     let tree_entries = tree_log.entries(alloc)?;
     let file_entries = entries_by_node(alloc, file_logs)?;
-    let mut out = Vec::new(alloc);
+    let room = report_room(sessions, &tree_entries, &file_entries, end);
+    let mut out = Vec::with_capacity(alloc, room)?;
     put_report_head(&mut out)?;
     put_sessions(&mut out, sessions)?;
     put_tree(&mut out, &tree_entries)?;
