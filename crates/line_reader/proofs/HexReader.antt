@@ -1,17 +1,18 @@
 -- Octets are read as they are spelled in hexadecimal.
-use Rattle.std.proofs.Common.{◌≡◌, ℕ, zero, suc, ◌+◌, ◌*◌, ◌/◌, ◌%◌, ◌<◌, Bool, true, cond, ltb, List, [], ◌∷◌, Option, Some, None, Result, Ok, Err, refl, sym, ap, ◌∙◌, arith, inl, inr}
+use Rattle.std.proofs.Common.{◌≡◌, ℕ, zero, suc, ◌+◌, ◌*◌, ◌/◌, ◌%◌, ◌<◌, Bool, true, false, cond, ltb, List, [], ◌∷◌, Option, Some, None, Result, Ok, Err, refl, sym, ap, ◌∙◌, arith, inl, inr}
 use Rattle.std.specs.Prelude.{◌&&◌, ◌==◌, slice_index}
 use Rattle.std.specs.List.{list_all}
+use Rattle.std.proofs.lemmas.List.Sums.{list_all-from_AllPass}
 use Rattle.std.specs.Result.{result_ok}
 use Rattle.std.proofs.lemmas.Bool.{and_parts, eqb-true, cases_lt}
 use Rattle.std.proofs.lemmas.Bool.Decides.{nat_tests}
 use Rattle.hex.specs.declared.error.FromHexError.{FromHexError}
-use Rattle.hex.specs.Hex.{decode_of, decode_pairs, decode_sized, digit_or_error, hex_digit_value, encode_lower, encode_with, lower_digits, pair_value, value_at, ◌>>=◌}
+use Rattle.hex.specs.Hex.{is_hex_digit as is_any_digit, decode_of, decode_pairs, decode_sized, digit_or_error, hex_digit_value, encode_lower, encode_with, lower_digits, pair_value, value_at, ◌>>=◌}
 use Rattle.hex.proofs.HexLemmas.{decode_of-even, decode_of-ok, decode_of-encode_lower, decode_sized-ok, decode_sized-twice, decode_sized-encode_lower}
 use Rattle.octet_model.specs.Octets.{AreOctets, HasOctets}
 use Rattle.octet_model.proofs.Octets.{octet_at, AreOctets-from_each}
 use Rattle.text_model.specs.Line.{hex}
-use Rattle.line_reader.specs.Fields.{is_hex_digit, hex_in, sized_hex_in}
+use Rattle.line_reader.specs.Fields.{is_hex_digit, is_no_capital, hex_in, sized_hex_in}
 use Rattle.line_reader.proofs.Readers.{IsReader, guard_some}
 use Rattle.line_reader.proofs.Words.{is_word}
 
@@ -118,6 +119,71 @@ hex_digits (x ∷ xs) fits =
     let l = glyph_digit (x % 16) low in
     let others = hex_digits xs fits.1 in
     (rw (digit_is (x / 16) high, digit_is (x % 16) low, h.0, l.0) others.0, rw (digit_is (x / 16) high, digit_is (x % 16) low, h.1, l.1) others.1)
+
+-- ---- a text without capitals
+
+lower_digit : (c : ℕ) → is_any_digit c ≡ true → is_no_capital c ≡ true → is_hex_digit c ≡ true
+lower_digit c any plain = grind (arith, nat_tests)
+
+no_capital : (c : ℕ) → is_hex_digit c ≡ true → is_no_capital c ≡ true
+no_capital c e = grind (arith, nat_tests)
+
+lower_digits_all : (text : List ℕ) → list_all is_any_digit text ≡ true → list_all is_no_capital text ≡ true → list_all is_hex_digit text ≡ true
+lower_digits_all [] any plain = refl
+lower_digits_all (c ∷ text) any plain =
+    let a = and_parts (is_any_digit c) (list_all is_any_digit text) any in
+    let n = and_parts (is_no_capital c) (list_all is_no_capital text) plain in
+    rw (lower_digit c a.0 n.0, lower_digits_all text a.1 n.1) refl
+
+no_capitals : (text : List ℕ) → list_all is_hex_digit text ≡ true → list_all is_no_capital text ≡ true
+no_capitals [] e = refl
+no_capitals (c ∷ text) e =
+    let p = and_parts (is_hex_digit c) (list_all is_hex_digit text) e in
+    rw (no_capital c p.0, no_capitals text p.1) refl
+
+-- where the digits of any case are read, and none is a capital, all are those of a text here
+digits_here : (text octets : List ℕ) → list_all is_no_capital text ≡ true → decode_of text ≡ Ok octets → list_all is_hex_digit text ≡ true
+digits_here text octets plain e = lower_digits_all text (list_all-from_AllPass is_any_digit text (decode_of-ok text octets e).1) plain
+
+guarded : (b : Bool) (r : Result (List ℕ) FromHexError) → ((octets : List ℕ) → r ≡ Ok octets → b ≡ true) → cond b (result_ok r) None ≡ result_ok r
+guarded true r digits = refl
+guarded false (Err d) digits = refl
+guarded false (Ok octets) digits = absurd (let e = digits octets refl in cc)
+
+pub hex_in_value : (text : List ℕ) → list_all is_no_capital text ≡ true → hex_in text ≡ result_ok (decode_of text)
+unfolding hex_in
+hex_in_value text plain = guarded (list_all is_hex_digit text) (decode_of text) (λ octets e. digits_here text octets plain e)
+
+pub hex_in_refused : (text : List ℕ) (e : FromHexError) → decode_of text ≡ Err e → hex_in text ≡ None
+unfolding hex_in
+hex_in_refused text e bad = by (list_all is_hex_digit text)
+  where
+    by : (b : Bool) → cond b (result_ok (decode_of text)) None ≡ None
+    by true = rw bad refl
+    by false = refl
+
+pub sized_hex_in_value : (count : ℕ) (text : List ℕ) → list_all is_no_capital text ≡ true → sized_hex_in count text ≡ result_ok (decode_sized text count)
+unfolding sized_hex_in
+sized_hex_in_value count text plain =
+    guarded (list_all is_hex_digit text) (decode_sized text count) (λ octets e.
+    let len = decode_sized-ok text count octets e in digits_here text octets plain (sym (decode_sized-twice text count len) ∙ e))
+
+refused : (b : Bool) (r : Option (List ℕ)) → b ≡ false → cond b r None ≡ None
+refused true r e = absurd cc
+refused false r e = refl
+
+capital_refused : (b plain : Bool) → (b ≡ true → plain ≡ true) → plain ≡ false → b ≡ false
+capital_refused true plain all e = absurd (let yes = all refl in cc)
+capital_refused false plain all e = refl
+
+-- a text with a capital is none
+pub hex_in_none : (text : List ℕ) → list_all is_no_capital text ≡ false → hex_in text ≡ None
+unfolding hex_in
+hex_in_none text e = refused _ _ (capital_refused (list_all is_hex_digit text) (list_all is_no_capital text) (no_capitals text) e)
+
+pub sized_hex_in_none : (count : ℕ) (text : List ℕ) → list_all is_no_capital text ≡ false → sized_hex_in count text ≡ None
+unfolding sized_hex_in
+sized_hex_in_none count text e = refused _ _ (capital_refused (list_all is_hex_digit text) (list_all is_no_capital text) (no_capitals text) e)
 
 -- octets in hexadecimal are read exactly
 pub hex_reader : IsReader hex_in hex AreOctets

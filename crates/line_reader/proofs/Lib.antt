@@ -2,6 +2,7 @@ pub mod Readers
 pub mod Words
 pub mod NumberReader
 pub mod HexReader
+pub mod Searching
 pub mod Cutting
 pub mod NameReader
 pub mod FieldsInARow

@@ -45,6 +45,9 @@ number_in text = if is_number text && nat_lt (value_behind 0 text) (2 ^ 64) then
 abbrev pub is_hex_digit : ℕ → Bool
 is_hex_digit c = (nat_le 48 c && nat_le c 57) || (nat_le 97 c && nat_le c 102)
 
+abbrev pub is_no_capital : ℕ → Bool
+is_no_capital c = not (nat_le 65 c && nat_le c 90)
+
 unfoldable pub hex_in : List ℕ → Option (List ℕ)
 hex_in text = if list_all is_hex_digit text then result_ok (decode_of text) else None
 

@@ -3,10 +3,12 @@ ghost use Rattle.std.specs.List.{position};
 ghost use Rattle.std.specs.Option.{option_map};
 ghost use Rattle.line_reader.specs.Lines.{cut_in, line_in};
 
+use memchr::memchr;
+
 fn index_of(octet: u8, text: &[u8]) -> Option<usize>
     ensures value { result ≡ position (λ c. c == octet) text.now }
 {
-    text.iter().position(|c| *c == octet)
+    memchr(octet, text)
 }
 
 /// What stands before the first such octet of a text, and what stands behind it.

@@ -2,23 +2,24 @@ ghost use Rattle.std.specs.Prelude.{◌≡◌, IfOk};
 ghost use Rattle.std.specs.List.{list_all};
 ghost use Rattle.octet_model.specs.Octets.{AreOctets, HasOctets};
 ghost use Rattle.text_model.specs.Line.{hex};
-ghost use Rattle.line_reader.specs.Fields.{Reads, is_hex_digit, hex_in, sized_hex_in};
+ghost use Rattle.line_reader.specs.Fields.{Reads, is_no_capital, hex_in, sized_hex_in};
 
 use hex::{FromHex, FromHexError};
 use lower_model::Items;
 use std::alloc::{AllocError, Global};
 
-fn is_lower_hex(text: &[u8]) -> bool
-    ensures { result ≡ list_all is_hex_digit text.now }
+// The digits that `hex` takes are those of a text here, but for capitals.
+fn has_no_capital(text: &[u8]) -> bool
+    ensures { result ≡ list_all is_no_capital text.now }
 {
-    text.iter().all(|c| (b'0' <= *c && *c <= b'9') || (b'a' <= *c && *c <= b'f'))
+    text.iter().all(|c| !(b'A' <= *c && *c <= b'Z'))
 }
 
-#[tactic(auto, unfolding(crate::specs::Fields::hex_in))]
+#[tactic(auto, using(crate::proofs::HexReader::hex_in_refused))]
 fn octets_of(alloc: Global, text: &[u8]) -> Result<Option<Items<u8>>, AllocError>
     ensures { IfOk result (λ found. found ≡ hex_in text.now) }
 {
-    if !is_lower_hex(text) {
+    if !has_no_capital(text) {
         return Ok(None);
     }
     match hex::decode(alloc, text) {
@@ -36,11 +37,10 @@ pub fn read_hex(alloc: Global, text: &[u8]) -> Result<Option<Items<u8>>, AllocEr
     octets_of(alloc, text)
 }
 
-#[tactic(auto, unfolding(crate::specs::Fields::sized_hex_in))]
 fn array_of<const N: usize>(text: &[u8]) -> Option<[u8; N]>
     ensures { result ≡ sized_hex_in N text.now }
 {
-    if !is_lower_hex(text) {
+    if !has_no_capital(text) {
         return None;
     }
     <[u8; N]>::from_hex(text).ok()
