@@ -1,0 +1,4 @@
+pub mod Drawing
+pub mod LawfulJobs
+pub mod MakeNames
+mod MakeValues
