@@ -1,12 +1,8 @@
 -- What one more number adds to what is made for each, and what is made for all of them.
-use Rattle.std.proofs.Common.{◌≡◌, ℕ, zero, suc, ◌+◌, ◌*◌, ◌≤◌, ◌<◌, List, [], ◌∷◌, ◌++◌, length, refl, sym, ap, ap₂, ◌∙◌, append_assoc, arith}
+use Rattle.std.proofs.Common.{◌≡◌, ℕ, zero, suc, ◌+◌, ◌*◌, ◌%◌, ◌≤◌, ◌<◌, List, [], ◌∷◌, ◌++◌, length, refl, sym, ap, ap₂, ◌∙◌, append_assoc, arith}
 use Rattle.std.specs.List.{AllByRecursion}
 use Rattle.std.proofs.lemmas.List.{append-nil, length-append}
-use Rattle.make_model.specs.Draws.{Making, give, for_each_from, for_each, ◌>>=◌}
-
--- what is made stands behind a front
-abbrev pub behind : {A : Type 0} → List A → List A × ℕ → List A × ℕ
-behind front made = (front ++ made.0, made.1)
+use Rattle.make_model.specs.Draws.{Making, draw, draw_mod, give, one, behind, for_each_from, for_each, ◌>>=◌}
 
 for_each_from-suc : {A : Type 0} (make : ℕ → Making (List A)) (first count x : ℕ) →
     for_each_from first (suc count) make x ≡ (for_each_from first count make >>= λ front. make (first + count) >>= λ last. give (front ++ last)) x
@@ -25,17 +21,37 @@ for_each_from-suc {A} make first (suc count) x =
 -- ---- a loop that makes something for each number
 
 -- before it
-pub for_each-none : {A : Type 0} (make : ℕ → Making (List A)) (x : ℕ) → for_each 0 make x ≡ ([], x)
+pub for_each_none : {A : Type 0} (make : ℕ → Making (List A)) (x : ℕ) → for_each 0 make x ≡ ([], x)
 unfolding for_each_from
-for_each-none make x = refl
+for_each_none make x = refl
 
--- one more
-pub for_each-more : {A : Type 0} (make : ℕ → Making (List A)) (count x y z : ℕ) (front last : List A) →
-    for_each count make x ≡ (front, y) → make count y ≡ (last, z) → for_each (count + 1) make x ≡ (front ++ last, z)
-for_each-more {A} make count x y z front last so_far more =
+pub behind_none : {A : Type 0} (make : ℕ → Making (List A)) (before : List A) (x : ℕ) → behind before (for_each 0 make x) ≡ (before, x)
+unfolding for_each_from
+behind_none {A} make before x = ap (λ (list : List A). (list, x)) (append-nil before)
+
+-- one more, behind what was there at first
+pub behind_more : {A : Type 0} (make : ℕ → Making (List A)) (before : List A) (count x : ℕ) (front : List A) (y : ℕ) (all : List A × ℕ) →
+    behind before (for_each count make x) ≡ (front, y) → behind front (make count y) ≡ all → behind before (for_each (count + 1) make x) ≡ all
+behind_more {A} make before count x front y all so_far more =
+    let made : List A × ℕ = for_each count make x in
     let number : 0 + count ≡ count = omega arith in
     let next : count + 1 ≡ suc count = omega arith in
-    rw next (for_each_from-suc make 0 count x ∙ rw (so_far, number, more) refl)
+    let step = for_each_from-suc make 0 count x in
+    ap (λ (n : ℕ). behind before (for_each n make x)) next
+    ∙ ap (behind before) step
+    ∙ ap (λ (n : ℕ). (before ++ (made.0 ++ (make n made.1).0), (make n made.1).1)) number
+    ∙ ap (λ (list : List A). (list, (make count made.1).1)) (sym (append_assoc before made.0 (make count made.1).0))
+    ∙ ap (λ (so_far : List A × ℕ). behind so_far.0 (make count so_far.1)) so_far
+    ∙ more
+
+-- one more item
+pub item_more : {A : Type 0} (item : Making A) (count x : ℕ) (front : List A) (y : ℕ) (a : A) (z : ℕ) →
+    for_each count (λ i. one item) x ≡ (front, y) → item y ≡ (a, z) → for_each (count + 1) (λ i. one item) x ≡ (front ++ a ∷ [], z)
+item_more {A} item count x front y a z so_far more =
+    behind_more (λ i. one item) [] count x front y (front ++ a ∷ [], z) so_far (ap (λ (made : A × ℕ). (front ++ made.0 ∷ [], made.1)) more)
+
+pub draw_mod_is : (n y d z : ℕ) → draw y ≡ (d, z) → draw_mod n y ≡ (d % n, z)
+draw_mod_is n y d z drawn = ap (λ (made : ℕ × ℕ). (made.0 % n, made.1)) drawn
 
 -- ---- what holds of all that is made
 

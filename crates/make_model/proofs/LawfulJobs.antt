@@ -143,12 +143,12 @@ job_lawful n image scripts schedule lawful some few each turns = record {
   schedule = turns;
 }
 
-pub empty_image-lawful : IsLowerTree empty_image
-empty_image-lawful = ((refl, refl, refl, refl, refl), lit≤ tt, tt)
+pub empty_image_lawful : IsLowerTree empty_image
+empty_image_lawful = ((refl, refl, refl, refl, refl), lit≤ tt, tt)
 
 pub job_a-lawful : (n : ℕ) → IsJob (job_a n).0
 job_a-lawful n =
-    job_lawful n empty_image ((script_a n).0 ∷ []) [] empty_image-lawful (lit≤ tt) (lit≤ tt) (script_a-lawful n, tt) (record { few = lit≤ tt; items = tt })
+    job_lawful n empty_image ((script_a n).0 ∷ []) [] empty_image_lawful (lit≤ tt) (lit≤ tt) (script_a-lawful n, tt) (record { few = lit≤ tt; items = tt })
 
 pub job_b_from-lawful : (n state : ℕ) (image : List LowerNode) → IsLowerTree image → IsJob (job_b_from n state image)
 job_b_from-lawful n state image lawful =

@@ -33,6 +33,10 @@ draw_mod n = draw >>= λ d. give (d % n)
 abbrev pub one : {A : Type 0} → Making A → Making (List A)
 one make = make >>= λ a. give (a ∷ [])
 
+-- a list that is made, behind one that is there
+abbrev pub behind : {A : Type 0} → List A → List A × ℕ → List A × ℕ
+behind front made = (front ++ made.0, made.1)
+
 -- for as many numbers from the first on, one after another: what is made for each, in one list
 unfoldable pub for_each_from : {A : Type 0} → ℕ → ℕ → (ℕ → Making (List A)) → Making (List A)
 for_each_from first zero make = give []
