@@ -1,5 +1,5 @@
 -- Both jobs are lawful: whatever their number and, of job B, its image and the state of the draws are.
-use Rattle.std.proofs.Common.{◌≡◌, ℕ, zero, suc, ◌+◌, ◌*◌, ◌/◌, ◌%◌, ◌^◌, ◌≤◌, ◌<◌, Bool, true, false, cond, ltb, List, [], ◌∷◌, ◌++◌, length, refl, sym, ap, subst, ◌∙◌, inl, inr, arith, lit<, lit≤}
+use Rattle.std.proofs.Common.{◌≡◌, ℕ, ◌*◌, ◌≤◌, ◌<◌, Bool, true, false, cond, ltb, List, [], ◌∷◌, length, refl, sym, subst, arith, lit<, lit≤}
 use Rattle.std.specs.Prelude.{replicate, ◌==◌}
 use Rattle.std.specs.Int.{w64, to_be_bytes}
 use Rattle.std.specs.List.{AllByRecursion, list_all}
@@ -12,8 +12,8 @@ use Rattle.script_model.specs.declared.op.Op.{Op}
 use Rattle.script_model.specs.declared.op.Op.TheVariants as ops
 use Rattle.script_model.specs.Script.{IsOp, IsScript, AreWritten, IsOffset}
 use Rattle.job_model.specs.Job.{IsJob, IsPassphrase, IsSchedule}
-use Rattle.make_model.specs.Draws.{Making, next_state, draw, draw_mod, one, for_each, repeat}
-use Rattle.make_model.specs.MakeJobs.{passphrase, salt, random_of, job_of, directory_name, file_path, octets_of, empty_image, new_directory, piece, new_file, script_a, job_a, twice_a_draw, line_of_kind, round, script_b, scripts_b, schedule_b, job_b_from, job_b}
+use Rattle.make_model.specs.Draws.{Making, next_state, draw_mod, one, for_each}
+use Rattle.make_model.specs.MakeJobs.{passphrase, salt, random_of, job_of, octets_of, empty_image, new_directory, piece, new_file, script_a, job_a, twice_a_draw, line_of_kind, round, script_b, scripts_b, schedule_b, job_b_from, job_b}
 use Rattle.make_model.proofs.Drawing.{all-append, for_each-all, for_each-few, length-for_each}
 use Rattle.make_model.proofs.MakeNames.{is_directory_name, is_file_path}
 
@@ -126,7 +126,7 @@ random_lawful : (n : ℕ) → HasOctets 32 (random_of n)
 random_lawful n = record {
   length_is = refl;
   octets = all-append (λ c. c < 256) (to_be_bytes w64 n) (replicate 24 0)
-    (omega arith, (omega arith, (omega arith, (omega arith, (omega arith, (omega arith, (omega arith, (omega arith, tt)))))))) (octets_of_pass (replicate 24 0) refl);
+      (omega arith, (omega arith, (omega arith, (omega arith, (omega arith, (omega arith, (omega arith, (omega arith, tt)))))))) (octets_of_pass (replicate 24 0) refl);
 }
 
 job_lawful : (n : ℕ) (image : List LowerNode) (scripts : List (List Op)) (schedule : List ℕ) → IsLowerTree image → 1 ≤ length scripts → length scripts ≤ 16 → AllByRecursion IsScript scripts →

@@ -1,16 +1,18 @@
 -- Worked values of a `make`: the draws, the first lines of its scripts, the first items of its schedule.
-use Rattle.std.proofs.Common.{◌≡◌, ℕ, List, [], ◌∷◌, length, map, take, refl}
+use Rattle.std.proofs.Common.{◌≡◌, ℕ, List, [], ◌∷◌, length, take, refl}
 use Rattle.std.specs.Prelude.{codes, replicate}
 use Rattle.std.specs.List.{flat_map}
 use Rattle.std.specs.Fmt.{digits}
+use Rattle.sha2.specs.Sha256.{sha256, digest_bytes, hash_after, compress, rounds, schedule, first_words}
 use Rattle.hex.specs.Hex.{encode_with}
 use Rattle.lower_model.specs.declared.meta_place.MetaPlace.TheVariants.{Header, Attribute}
 use Rattle.text_model.specs.Line.{line, number, hex}
 use Rattle.script_model.specs.declared.op.Op.{Op}
 use Rattle.script_model.specs.declared.op.Op.TheVariants as ops
 use Rattle.script_model.specs.ScriptText.{op_line}
-use Rattle.make_model.specs.Draws.{Making, next_state, draw, draw_mod, one, for_each_from, for_each, repeat}
+use Rattle.make_model.specs.Draws.{next_state, draw, draw_mod, one, for_each_from, for_each, repeat}
 use Rattle.make_model.specs.MakeJobs.{meta_place_of, random_of, new_directory, new_file, line_of_kind, round}
+use Rattle.make_model.specs.MakeText.{make_text}
 
 -- ---- draws
 
@@ -80,3 +82,9 @@ even_number = refl
 
 random_of_a_thousand : random_of 1000 ≡ 0 ∷ 0 ∷ 0 ∷ 0 ∷ 0 ∷ 0 ∷ 3 ∷ 232 ∷ replicate 24 0
 random_of_a_thousand = refl
+
+-- ---- the summary, of a report of the three octets `abc`, whose SHA-256 is an example of FIPS 180-4
+
+summary : make_text 7 3043148 (codes "abc") ≡ codes "ecryptfs-make 1\nnumber 7\nimage 3043148\nreport 3\nsha256 ba7816bf8f01cfea414140de5dae2223b00361a396177a9cb410ff61f20015ad\nend\n"
+unfolding digits encode_with sha256 digest_bytes hash_after compress rounds schedule first_words
+summary = refl

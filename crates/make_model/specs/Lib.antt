@@ -1,3 +1,4 @@
 pub mod Draws
 pub mod MakeJobs
 pub mod MakeText
+pub mod Made

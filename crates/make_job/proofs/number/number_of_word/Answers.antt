@@ -8,7 +8,7 @@ pub returns-else-number : goal.returns-else-number
 returns-else-number c =
     rw (← c.as_bytes.ensures.value) (spells_none c.as_bytes.result.now c.in_ok-number.number c.in_ok-number.ensures.reads
     (λ (is : IsMakeNumber c.in_ok-number.number).
-      elim c.else-number.branch [
-        | else-number-via-then-number+else-number-2 w ↦ absurd (omega (arith, is.least, is.greatest))
-        | else-number-via-else-number w ↦ absurd (omega (arith, is.least, is.greatest))
-      ]))
+    elim c.else-number.branch [
+      | else-number-via-then-number+else-number-2 w ↦ absurd (omega (arith, is.least, is.greatest))
+      | else-number-via-else-number w ↦ absurd (omega (arith, is.least, is.greatest))
+    ]))
