@@ -7,6 +7,7 @@ from texts import Refused, image_head, job_end, job_head, spelled_path
 
 PROGRAM = os.path.join(os.path.dirname(os.path.dirname(os.path.abspath(__file__))), "crates", "mount_prog", "out", "mount_prog")
 MOUNTS = "/proc/self/mountinfo"
+MOST_WORKERS = 8
 
 
 # ---- folders ----
@@ -89,6 +90,6 @@ def check_program(program, names):
 
 
 def jobs_for(words, job_memory):
-    """How many programs run at once: within the processors and half of the memory, where a job takes so much."""
+    """How many programs run at once: at most eight, within the processors and half of the memory, where a job takes so much."""
     memory = os.sysconf("SC_PAGE_SIZE") * os.sysconf("SC_PHYS_PAGES")
-    return words.jobs or max(1, min(len(os.sched_getaffinity(0)), memory // 2 // job_memory))
+    return words.jobs or max(1, min(len(os.sched_getaffinity(0)), MOST_WORKERS, memory // 2 // job_memory))

@@ -4,6 +4,7 @@ Their lower names stand in the jobs as they are, as plain names: what a file dec
 """
 import os
 from binascii import unhexlify
+from copy import copy
 
 from lower_walk import CHANGED, FILE_ONLY, Folders, Kind, unreadable
 from metadata import attribute_of
@@ -190,6 +191,12 @@ class ContentJobs(ShowJobs):
     def __init__(self, program, key, lower, room):
         super().__init__(program, key)
         self.lower, self.room = lower, Room(room)
+
+    def of_worker(self, place, count):
+        """These jobs, for one of so many workers."""
+        ours = copy(self)
+        ours.room = Room(self.room.folder, place, count)
+        return ours
 
     def without(self, entry, why):
         """What is told of a file on which the program fails."""

@@ -12,6 +12,8 @@ from texts import MOST_ENTRIES, attribute_field, body_length, entry_head, image_
 class NameBatch:
     """Names that go through the program in one job: each directory as one with a number, what is in it as empty files."""
 
+    octets = most_octets = 0
+
     def __init__(self, own):
         self.own, self.nodes, self.groups = own, [], 0
         last = None

@@ -12,6 +12,8 @@ from texts import MOST_ENTRIES, entry_head, image_head, job_end, job_head, path_
 class NewNames:
     """Entries of different names, whose names go through the program in one job."""
 
+    octets = most_octets = 0
+
     def __init__(self, own):
         self.own, self.lower = own, []
         self.by_name = {entry.source_name: entry for entry in own}

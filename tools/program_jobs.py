@@ -1,12 +1,10 @@
-"""Batches through the program, several at once: each becomes one or more jobs, and what the program writes is taken meanwhile."""
+"""A batch through the program: it becomes one or more jobs, and what the program writes is taken meanwhile."""
 import errno
 import fcntl
 import os
 import signal
 import subprocess
 import threading
-from concurrent.futures import FIRST_COMPLETED, ThreadPoolExecutor, wait
-from itertools import islice
 
 from texts import Refused
 
@@ -55,7 +53,7 @@ def feed(pipe, pieces):
 
 
 class ProgramJobs:
-    """Runs batches, from several threads at once; `end` stops them all.
+    """Runs batches; `end`, from another thread, stops them.
 
     A batch has entries of its own (`own`) and two halves (`halves`). What its jobs are and what is told of its entries is said
     by the calls of the classes below this one: `without` and `run_whole`.
@@ -64,6 +62,10 @@ class ProgramJobs:
     def __init__(self, program, key):
         self.program, self.key = program, key
         self.running, self.lock, self.is_ended = set(), threading.Lock(), False
+
+    def of_worker(self, place, count):
+        """These jobs, for one of so many workers."""
+        return self
 
     def run(self, batch):
         """What is told of the entries; where the program fails, of each half, down to one entry."""
@@ -126,25 +128,3 @@ class ProgramJobs:
         self.check_going()
         if status or fault:
             raise Failed(fault if not status else f"status {status}" if status > 0 else f"signal {-status}")
-
-
-def told_by(jobs, batches, count, stop, tell):
-    """What is told of the entries of all batches, so many of which run at once; Stopped behind a signal.
-
-    `tell` is called now and then. Where the one who takes what is told ends, so do the programs.
-    """
-    running, waiting = set(), iter(batches)
-    with ThreadPoolExecutor(count) as pool:
-        try:
-            # (one batch more waits, so that no processor does)
-            while running := running | {pool.submit(jobs.run, batch) for batch in islice(waiting, count + 1 - len(running))}:
-                ended, running = wait(running, timeout=0.2, return_when=FIRST_COMPLETED)
-                for batch in ended:
-                    yield from batch.result()
-                tell()
-                if stop.number:
-                    raise Stopped
-        except BaseException:
-            jobs.end()
-            pool.shutdown(cancel_futures=True)
-            raise

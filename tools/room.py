@@ -29,10 +29,10 @@ def write_piece(file, piece):
 
 
 class Room:
-    """An open folder, in which each file gets the next number."""
+    """An open folder, in which each file gets the next number; of so many workers each has numbers of its own."""
 
-    def __init__(self, folder):
-        self.folder, self.numbers = folder, itertools.count(1)
+    def __init__(self, folder, place=0, count=1):
+        self.folder, self.numbers = folder, itertools.count(1 + place, count)
 
     def write(self, written, pieces, attribute=None):
         """Writes a file under a number; where the target refuses it, the pieces are taken all the same."""

@@ -4,6 +4,7 @@ A job makes the directories above its files again. Its random octets are its own
 """
 import os
 from binascii import hexlify
+from copy import copy
 
 from content_jobs import Batch, Unread, file_pieces
 from lower_walk import CHANGED, Folders, Kind
@@ -90,7 +91,9 @@ def file_lines(entry, folders, faults):
                 piece = next(pieces)
             except Unread as why:
                 faults[entry] = str(why)
-        yield b"write 0 %d %b\n" % (start, hexlify(piece or bytes(min(WRITE_ROOM, entry.body - start))))
+        yield b"write 0 %d " % start
+        yield hexlify(piece or bytes(min(WRITE_ROOM, entry.body - start)))
+        yield b"\n"
     try:
         # (what is left of it is that the file is still the same)
         next(pieces, None)
@@ -105,6 +108,12 @@ class SealJobs(ProgramJobs):
     def __init__(self, program, key, form, folder, room):
         super().__init__(program, key)
         self.form, self.folder, self.room = form, folder, Room(room)
+
+    def of_worker(self, place, count):
+        """These jobs, for one of so many workers."""
+        ours = copy(self)
+        ours.room = Room(self.room.folder, place, count)
+        return ours
 
     def without(self, entry, why):
         """What is told of a file on which the program fails."""

@@ -24,6 +24,7 @@ from seal_jobs import MOST_PATHS, SealBatch, is_too_deep, path_room
 from testing import PREFIX, SALT, SECONDS, TOOLS, TOP, UTILS_NAME_SALT, InRoom, drawn, read, run_over_program, signature
 from tests import entries_of, image_in
 from texts import Refused
+from workers import Workers as Crowd
 
 SIGNATURES = signature(SALT).hex(), signature(UTILS_NAME_SALT).hex()
 OTHER_SALT = "8899aabbccddeeff"
@@ -499,6 +500,137 @@ class Again(Seal):
         subprocess.run(["mount", "-o", "remount,size=8m", self.at("disk")], check=True)
         self.assertEqual(self.seal(*record, lower="disk/lower").returncode, 0)
         self.assertEqual(len(self.paths_in("disk/lower")), 10)
+
+
+# Batches of some three files, so that each worker gets several.
+SMALL_BATCHES = "import seal_jobs\nseal_jobs.SealBatch.most_octets = 60_000"
+# The number of the first process, for a program that a worker runs.
+FIRST = "$(cut -d ' ' -f 4 /proc/$PPID/stat)"
+
+
+class Workers(Seal):
+    """Several batches in several processes."""
+
+    def fill_batches(self):
+        """60 files, which are some 20 batches."""
+        for number in range(60):
+            path = self.write(f"folder/{number % 4}/file {number:02}", DRAWN[: 18_000 + 50 * number])
+            os.chmod(path, [0o644, 0o600, 0o444][number % 3])
+            os.utime(path, ns=(10**18, 10**18 + number))
+
+    def seal_batches(self, *words, jobs=4, **more):
+        return self.seal("--jobs", str(jobs), *words, patch=SMALL_BATCHES, **more)
+
+    def at_batch(self, number, what):
+        """A program that does this at the batch with this number and at later ones; the calls before are for the form and names."""
+        return self.program(f'[ "$calls" -ge {number + 3} ] && {what}\nexec $program "$@"')
+
+    def assert_goes_on(self):
+        """A second start does what is left: some of the files, but not all."""
+        first = [path for path in self.paths_in("lower") if os.path.isfile(self.at(b"lower/" + path))]
+        ran = self.seal_batches()
+        self.assertEqual((ran.returncode, ran.stderr), (0, b""), ran.stdout)
+        again = int(re.match(rb"([0-9]+) files and ", ran.stdout)[1])
+        self.assertTrue(0 < again < 60, ran.stdout)
+        self.assertEqual(again + len([path for path in first if not path.startswith(b".seal")]), 60)
+        keys = [octets[KEY_AT : KEY_AT + 16] for octets in self.metadata().values()]
+        self.assertEqual((len(keys), len(set(keys))), (60, 60))
+        self.recovered()
+        self.assert_same("folder", "home")
+
+    def test_one_worker_and_four_write_the_same_tree(self):
+        self.fill_batches()
+        for number in (3, 40, 59):
+            self.write(f"folder/{number % 4}/" + f"{number:02}" * 72, b"its name is too long")
+        os.symlink("a", self.at("folder/2/link"))
+        # (ten files come to an offset that no file has)
+        spoil = 'sed "/file%205[0-9]$/,/^close/s,^write 0 0,write 0 67108864," | $program "$@"'
+        told = []
+        for jobs in (1, 4):
+            ran = self.seal_batches(*self.program(spoil), jobs=jobs)
+            told.append((self.left_out(ran), read(self.at("lower.seal.left_out")), ran.stdout))
+            self.assertEqual(told[-1][0]["/2/file%2050"], "toobig")
+            os.rename(self.at("lower"), self.at(f"lower {jobs}"))
+            os.rename(self.at("lower.seal"), self.at(f"record {jobs}"))
+        self.assertEqual(told[0], told[1])
+        lines = [sorted(read(self.at(f"record {jobs}")).splitlines()[1:]) for jobs in (1, 4)]
+        self.assertEqual(lines[0], lines[1])
+        paths = self.paths_in("lower 1")
+        self.assertEqual(paths, self.paths_in("lower 4"))
+        seen = lambda jobs, path: os.stat(self.at(os.path.join(b"lower %d" % jobs, path)))
+        marks = lambda jobs, path: (seen(jobs, path).st_mode, seen(jobs, path).st_mtime_ns, seen(jobs, path).st_size)
+        files = [path for path in paths if os.path.isfile(self.at(b"lower 1/" + path))]
+        self.assertEqual([marks(1, path) for path in files], [marks(4, path) for path in files])
+        self.assertEqual(len(files), 50)
+
+    def test_a_stop_in_the_middle_of_four_workers(self):
+        for whom, number in (("$PPID", 15), (FIRST, 2)):
+            with self.subTest(whom):
+                self.fill_batches()
+                stop = self.at_batch(8, f"kill -{number} {whom} && sleep 20")
+                ran = self.seal_batches(*stop)
+                self.assertEqual(ran.returncode, 128 + number, ran.stderr + ran.stdout)
+                self.assertIn(b"seal: stopped; the same command goes on from here", ran.stderr)
+                self.assertEqual([path for path in self.paths_in("lower") if path.startswith(b".seal")], [])
+                self.assert_goes_on()
+                for name in ("folder", "lower", "home"):
+                    shutil.rmtree(self.at(name))
+                for name in ("lower.seal", "home.recover", "calls"):
+                    os.remove(self.at(name))
+
+    def test_a_worker_that_is_killed_ends_the_work(self):
+        self.fill_batches()
+        ran = self.seal_batches(*self.at_batch(8, "kill -KILL $PPID"))
+        self.assertEqual(ran.returncode, 3, ran.stderr + ran.stdout)
+        self.assertIn(b"seal: a process of this program has ended before its work was done; the same command goes on", ran.stderr)
+        self.assertEqual([path for path in self.paths_in("lower") if path.startswith(b".seal")], [])
+        self.assert_goes_on()
+
+    def test_workers_end_where_the_first_process_is_killed(self):
+        self.fill_batches()
+        # (the streams of the tool are at their end once the last of its processes has ended)
+        ran = self.seal_batches(*self.at_batch(8, f"kill -KILL {FIRST} && sleep 20"))
+        self.assertEqual((ran.returncode, ran.stdout), (-9, b""), ran.stderr)
+        self.assert_goes_on()
+
+    def test_a_full_target_ends_all_workers(self):
+        self.fill_batches()
+        patch = """
+import itertools
+calls, write = itertools.count(), os.write
+def full(file, octets):
+    if len(octets) > 20_000 and next(calls) == 3:
+        raise OSError(28, "No space left on device")
+    return write(file, octets)
+os.write = full
+"""
+        ran = self.seal("--jobs", "4", patch=SMALL_BATCHES + patch)
+        self.assertEqual(ran.returncode, 3, ran.stderr + ran.stdout)
+        self.assertIn(b"seal: the target can't be written: No space left on device; the same command goes on from here", ran.stderr)
+        self.assertEqual([path for path in self.paths_in("lower") if path.startswith(b".seal")], [])
+        self.assert_goes_on()
+
+    def test_no_more_is_under_way_than_so_many_whole_batches_have(self):
+        entry = lambda number, size: Entry(b"%d" % number, None, Kind.FILE, Found(number, size, 0, 0, 0, 0, 0, 0))
+        batches = [SealBatch([entry(number, size)]) for number, size in enumerate([MOST_CONTENT, 10_000_000, 16_777_216, 1, 1])]
+        workers = Crowd([], [], 2, None)
+        workers.room = 2 * SealBatch.most_octets
+        workers.all, workers.waiting = [Idle() for _ in range(2)], [*enumerate(batches)][::-1]
+        seen = []
+        while workers.waiting or workers.busy:
+            workers.hand_out()
+            seen.append(sorted(worker.place for worker in workers.busy))
+            workers.busy[0].batch = None
+        self.assertEqual(seen, [[0], [1, 2], [2, 3], [2, 4], [2]])
+
+
+class Idle:
+    """A worker that does nothing."""
+
+    place = batch = None
+
+    def give(self, place, batch):
+        self.place, self.batch = place, batch
 
 
 class Parts(unittest.TestCase):

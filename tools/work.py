@@ -9,8 +9,9 @@ from contextlib import closing
 
 from checks import PROGRAM
 from lower_walk import Kind
-from program_jobs import Stopped, TargetFull, told_by
+from program_jobs import Stopped, TargetFull
 from texts import Refused, spelled_path
+from workers import told_by
 
 LEFT_OUT, SIGNALLED = 3, 128
 BELOW = "below a directory that was left out"
@@ -134,6 +135,8 @@ class Work:
             self.make_links()
         except Stopped as stopped:
             self.fault = str(stopped) or "stopped"
+        # (workers end in any order)
+        self.left_out.sort(key=lambda each: each[1].split(b"/"))
         self.progress.clear()
 
     def run(self, jobs_in, batches_of, count, root):
@@ -217,7 +220,7 @@ def words_parser(tool, text, beside):
     parser = argparse.ArgumentParser(prog=tool, description=text, formatter_class=argparse.RawDescriptionHelpFormatter)
     parser.add_argument("--passphrase-file", metavar="FILE", help="a file with the passphrase, else it is asked for")
     parser.add_argument("--record", metavar="FILE", help=f"where the record is, else {beside}.{tool}; the list stands beside it")
-    parser.add_argument("--jobs", metavar="N", type=int, choices=range(1, 65), help="how many programs run at once")
+    parser.add_argument("--jobs", metavar="N", type=int, choices=range(1, 65), help="how many programs run at once, each with a process of its own")
     parser.add_argument("--program", metavar="PROGRAM", default=PROGRAM, help="the built program mount_prog")
     return parser
 
