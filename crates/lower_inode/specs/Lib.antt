@@ -1,3 +1,4 @@
+pub mod CipherSteps
 pub mod Shards
 pub mod NodeTurn
 pub mod WritingOut

@@ -1,5 +1,5 @@
 // One node: its open file, and the slots that have it open.
-ghost use Rattle.std.specs.Prelude.{◌≡◌, ◌≤◌, ℕ, List, Some, None, not, length, take, drop};
+ghost use Rattle.std.specs.Prelude.{◌≡◌, ◌+◌, ◌*◌, ◌≤◌, ℕ, List, Some, None, not, length, take, drop};
 ghost use Rattle.std.specs.List.{list_any};
 ghost use Rattle.session_model.specs.declared.file.FileCall.TheVariants.{Attach, Detach, Read, Size, Sync, Truncate, Write};
 ghost use Rattle.script_model.specs.Script.{AreWritten, IsOffset};
@@ -9,6 +9,9 @@ ghost use Rattle.body_model.specs.Format.{Format, IsFormat};
 ghost use Rattle.file_model.specs.ByteFile.{is_attached, is_open_slot, without_slot};
 ghost use Rattle.file_model.specs.LaidOut.{LaidOut, Origin};
 ghost use Rattle.open_file.specs.Buffered.{working_of};
+ghost use Rattle.packet_model.specs.declared.layout.TheConstants.{MAX_SIZE};
+ghost use Rattle.packet_model.specs.Metadata.{extent_count};
+ghost use Rattle.lower_inode.specs.CipherSteps.{marked_extents, most_steps};
 ghost use Rattle.lower_inode.specs.NodeTurn.{AddsSlot, IsNode, IsNodeTurn, reply_to_change};
 ghost use Rattle.lower_inode.specs.Shards.{HasRoomFor};
 
@@ -95,7 +98,8 @@ fn attach_first<B: LowerBodies, F: BodyFormat, L: Ledger>(
     steps: &mut Steps<L>,
 ) -> FileReply
     requires { entry.old ≡ None }
-    ensures { IsNodeTurn (F.rules format.now) (B.held bodies.old) (B.held bodies.new) node entry.old entry.new session (Attach slot) result }
+    ensures turn { IsNodeTurn (F.rules format.now) (B.held bodies.old) (B.held bodies.new) node entry.old entry.new session (Attach slot) result }
+    ensures steps { steps.new ≤ steps.old + (2 + 256 * extent_count MAX_SIZE) }
 {
     let mut slots = Vec::new(alloc);
     match slots.push(OpenSlot { session, slot }) {
@@ -125,7 +129,8 @@ fn attach<B: LowerBodies, F: BodyFormat, L: Ledger>(
     steps: &mut Steps<L>,
 ) -> FileReply
     requires { IsNode (B.held bodies.old) node entry.old }
-    ensures { IsNodeTurn (F.rules format.now) (B.held bodies.old) (B.held bodies.new) node entry.old entry.new session (Attach slot) result }
+    ensures turn { IsNodeTurn (F.rules format.now) (B.held bodies.old) (B.held bodies.new) node entry.old entry.new session (Attach slot) result }
+    ensures steps { steps.new ≤ steps.old + (2 + 256 * extent_count MAX_SIZE) }
 {
     match entry {
         Some(opened) => add_slot(&mut opened.slots, session, slot),
@@ -239,7 +244,8 @@ fn sync<B: LowerBodies, F: BodyFormat, L: Ledger>(
     steps: &mut Steps<L>,
 ) -> FileReply
     requires { IsNode (B.held bodies.old) node entry.old }
-    ensures { IsNodeTurn (F.rules format.now) (B.held bodies.old) (B.held bodies.new) node entry.old entry.new session (Sync slot) result }
+    ensures turn { IsNodeTurn (F.rules format.now) (B.held bodies.old) (B.held bodies.new) node entry.old entry.new session (Sync slot) result }
+    ensures steps { steps.new ≤ steps.old + 256 * marked_extents entry.old }
 {
     let Some(opened) = entry else {
         return FileReply::NotOpen;
@@ -264,7 +270,8 @@ fn detach<B: LowerBodies, F: BodyFormat, L: Ledger>(
     steps: &mut Steps<L>,
 ) -> FileReply
     requires { IsNode (B.held bodies.old) node entry.old }
-    ensures { IsNodeTurn (F.rules format.now) (B.held bodies.old) (B.held bodies.new) node entry.old entry.new session (Detach slot) result }
+    ensures turn { IsNodeTurn (F.rules format.now) (B.held bodies.old) (B.held bodies.new) node entry.old entry.new session (Detach slot) result }
+    ensures steps { steps.new ≤ steps.old + 256 * marked_extents entry.old }
 {
     let Some(opened) = entry else {
         return FileReply::NotOpen;
@@ -309,7 +316,8 @@ pub(crate) fn turn<B: LowerBodies, F: BodyFormat, L: Ledger>(
     requires call { IsFileCall call.now }
     requires room { HasRoomFor call.now (length told.items) }
     requires node { IsNode (B.held bodies.old) node entry.old }
-    ensures { IsNodeTurn (F.rules format.now) (B.held bodies.old) (B.held bodies.new) node entry.old entry.new session call.now result }
+    ensures turn { IsNodeTurn (F.rules format.now) (B.held bodies.old) (B.held bodies.new) node entry.old entry.new session call.now result }
+    ensures steps { steps.new ≤ steps.old + most_steps entry.old call.now }
 {
     match call {
         FileCall::Attach(slot) => attach(alloc, bodies, format, node, entry, session, *slot, steps),

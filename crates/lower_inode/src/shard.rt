@@ -1,10 +1,11 @@
-ghost use Rattle.std.specs.Prelude.{◌≡◌, ◌<◌, ◌≤◌, ◌%◌, ℕ, [], IfErr, None, OnErr, OnOk, length, take};
+ghost use Rattle.std.specs.Prelude.{◌≡◌, ◌+◌, ◌<◌, ◌≤◌, ◌%◌, ℕ, [], IfErr, None, OnErr, OnOk, length, take};
 ghost use Rattle.answer_model.specs.Count.{Rose};
 ghost use Rattle.lower_tree.specs.Held.{stores};
 ghost use Rattle.session_model.specs.FileCall.{IsFileCall};
 ghost use Rattle.body_model.specs.Format.{content};
 ghost use Rattle.file_model.specs.Shard.{IsCutWriteOut, IsShardStep, IsWholeWriteOut, IsWriteOut, Stands, state_by};
-ghost use Rattle.lower_inode.specs.Shards.{HasRoomFor, IsReplyIn, shard_of};
+ghost use Rattle.lower_inode.specs.CipherSteps.{most_steps};
+ghost use Rattle.lower_inode.specs.Shards.{HasRoomFor, IsReplyIn, node_in, shard_of};
 
 use crate::node::OpenNode;
 use crate::room::ReadRoom;
@@ -116,6 +117,7 @@ impl<B: LowerBodies, F: BodyFormat> Shard<B, F> {
         requires room { HasRoomFor call room }
         ensures step { IsShardStep (F.rules self.old.format) (B.held self.old.bodies) (B.held self.new.bodies) (shard_of self.old) (shard_of self.new)
             (record { session = session; op = op; node = node; call = call; reply = result; before = (B.held self.old.bodies).faults; after = (B.held self.new.bodies).faults }) }
+        ensures steps { steps.new ≤ steps.old + most_steps (node_in self.old.index self.old.nodes node) call }
         ensures index { self.new.index ≡ self.old.index }
         ensures format { self.new.format ≡ self.old.format }
     {

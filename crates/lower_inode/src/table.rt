@@ -3,6 +3,7 @@ ghost use Rattle.std.specs.Prelude.{◌≡◌, ◌≢◌, ◌+◌, ◌%◌, ◌/
 ghost use Rattle.lower_tree.specs.Held.{stores};
 ghost use Rattle.session_model.specs.FileCall.{IsFileCall};
 ghost use Rattle.file_model.specs.FileLog.{IsAttach};
+ghost use Rattle.lower_inode.specs.CipherSteps.{most_steps};
 ghost use Rattle.lower_inode.specs.NodeTurn.{IsNode, IsNodeTurn};
 ghost use Rattle.lower_inode.specs.Shards.{HasRoomFor, flat, node_in};
 
@@ -56,6 +57,7 @@ fn turn_there<B: LowerBodies, F: BodyFormat, L: Ledger>(
     ensures len { length nodes.new.items ≡ length nodes.old.items }
     ensures turn { IsNodeTurn (F.rules format.now) (B.held bodies.old) (B.held bodies.new) node
         (node_in (node % stores) nodes.old.items node) (node_in (node % stores) nodes.new.items node) session call.now result }
+    ensures steps { steps.new ≤ steps.old + most_steps (node_in (node % stores) nodes.old.items node) call.now }
     ensures others { (other : ℕ) → other ≢ node → node_in (node % stores) nodes.new.items other ≡ node_in (node % stores) nodes.old.items other }
 {
     let Some(entry) = nodes.get_mut(node as usize / STORES) else {
@@ -84,6 +86,7 @@ pub(crate) fn turn_at<B: LowerBodies, F: BodyFormat, L: Ledger>(
     ensures most { length nodes.new.items ≤ max (length nodes.old.items) (node / stores + 1) }
     ensures turn { IsNodeTurn (F.rules format.now) (B.held bodies.old) (B.held bodies.new) node
         (node_in (node % stores) nodes.old.items node) (node_in (node % stores) nodes.new.items node) session call.now result }
+    ensures steps { steps.new ≤ steps.old + most_steps (node_in (node % stores) nodes.old.items node) call.now }
     ensures others { (other : ℕ) → other ≢ node → node_in (node % stores) nodes.new.items other ≡ node_in (node % stores) nodes.old.items other }
 {
     match call {

@@ -10,7 +10,7 @@ pub turn-requires-clause-node : goal.turn-requires-clause-node
 turn-requires-clause-node g c = node_at _ c.args.node c.args.nodes.now.items c.in-Some.entry.now (slice_get-get_or c.args.nodes.now.items (c.args.node / 8) c.in-Some.entry.now (search rules) ∙ ap Some (sym c.in-Some.ensures.value)) c.requires.node
 
 pub returns-clause-turn : goal.returns-clause-turn
-returns-clause-turn g c = turn_placed _ _ _ c.args.node c.args.nodes.now.items c.in-Some.entry.now c.turn.new.entry c.args.session c.args.call.now c.turn.result (slice_get-get_or c.args.nodes.now.items (c.args.node / 8) c.in-Some.entry.now (search rules) ∙ ap Some (sym c.in-Some.ensures.value)) c.turn.ensures
+returns-clause-turn g c = turn_placed _ _ _ c.args.node c.args.nodes.now.items c.in-Some.entry.now c.turn.new.entry c.args.session c.args.call.now c.turn.result (slice_get-get_or c.args.nodes.now.items (c.args.node / 8) c.in-Some.entry.now (search rules) ∙ ap Some (sym c.in-Some.ensures.value)) c.turn.ensures.turn
 
 pub returns-clause-others : goal.returns-clause-others
 returns-clause-others g c = λ other apart. node_set_other _ c.args.node other c.args.nodes.now.items c.turn.new.entry refl apart

@@ -1,4 +1,5 @@
-use Rattle.std.proofs.Common.{◌≡◌, ap, arith, refl, subst, sym, ◌∙◌}
+use Rattle.std.proofs.Common.{◌≡◌, ◌+◌, ◌≤◌, ap, arith, refl, subst, sym, ◌∙◌}
+use Rattle.lower_inode.specs.CipherSteps.{most_steps}
 use Rattle.lower_inode.specs.Shards.{IsReplyIn, node_in, shard_of}
 use Rattle.lower_inode.specs.NodeTurn.{IsNode}
 use Rattle.lower_inode.proofs.Others.{nodes_on}
@@ -36,3 +37,9 @@ returns-clause-step g c =
     c.args.session c.args.op c.args.node c.args.call c.turn_at-reply.result own refl refl
     c.turn_at-reply.ensures.turn c.turn_at-reply.ensures.others
     (c.push.ensures ∙ rw (c.logged_reply.ensures, c.faults-before.ensures, c.faults-after.ensures) refl))
+
+pub returns-clause-steps : goal.returns-clause-steps
+returns-clause-steps g c =
+    let own = c.requires.node ∙ ap (λ s. s.index) (sym c.self.view_is) in
+    subst (λ s. c.turn_at-reply.new.steps ≤ c.args.steps.now + most_steps (node_in s.index s.nodes c.args.node) c.args.call) c.self.view_is
+    (subst (λ i. c.turn_at-reply.new.steps ≤ c.args.steps.now + most_steps (node_in i c.self.inside.nodes.items c.args.node) c.args.call) own c.turn_at-reply.ensures.steps)
