@@ -1,5 +1,5 @@
 -- What a job may hold.
-use Rattle.std.specs.Prelude.{ℕ, ◌≡◌, ◌<◌, ◌≤◌, List, length}
+use Rattle.std.specs.Prelude.{ℕ, ◌<◌, ◌≤◌, List, length}
 use Rattle.std.specs.List.{AllByRecursion}
 use Rattle.octet_model.specs.Octets.{AreOctets, HasOctets}
 use Rattle.lower_model.specs.LowerTree.{IsLowerTree}
@@ -26,7 +26,3 @@ pub record IsJob (job : Job) : Type 0 where
   pub few_sessions : length job.scripts ≤ MOST_SESSIONS
   pub scripts : AllByRecursion IsScript job.scripts
   pub schedule : IsSchedule (length job.scripts) job.schedule
-
--- The jobs that the program serves so far, of all jobs of the format.
-pub record IsServedSoFar (job : Job) : Type 0 where
-  pub one_session : length job.scripts ≡ 1

@@ -1,2 +1,3 @@
 pub mod Job
 pub mod JobText
+pub mod BadPlace

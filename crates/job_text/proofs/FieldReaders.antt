@@ -17,7 +17,7 @@ use Rattle.job_model.specs.declared.job.NameCoding.TheVariants.{Plain, Tag70}
 use Rattle.lower_model.specs.declared.meta_place.MetaPlace.{MetaPlace}
 use Rattle.lower_model.specs.declared.meta_place.MetaPlace.TheVariants.{Header, Attribute}
 use Rattle.job_model.specs.Job.{IsPassphrase, IsSchedule}
-use Rattle.job_model.specs.JobText.{coding_word, meta_place_word}
+use Rattle.job_model.specs.JobText.{IsAny, IsWithin, coding_word, meta_place_word}
 use Rattle.line_reader.specs.Fields.{number_in, hex_in, each_in}
 use Rattle.line_reader.proofs.Readers.{IsReader, guard_some}
 use Rattle.line_reader.proofs.Words.{is_word, is_other, both, weaker}
@@ -34,7 +34,7 @@ use Rattle.job_text.proofs.LineParts.{HasNoEnd}
 word_no_end : (c : ℕ) → is_word c ≡ true → is_other 10 c ≡ true
 word_no_end c e = grind (arith, nat_tests)
 
-digit_is_not : (octet c : ℕ) → octet < 48 → is_ascii_digit c ≡ true → is_other octet c ≡ true
+pub digit_is_not : (octet c : ℕ) → octet < 48 → is_ascii_digit c ≡ true → is_other octet c ≡ true
 digit_is_not octet c lt e = grind (arith, nat_tests)
 
 pub number_without : (octet n : ℕ) → octet < 48 → n < 2 ^ 64 → list_all (is_other octet) (number n) ≡ true
@@ -62,9 +62,6 @@ passphrase_reader = record { found = found; again = again }
 
     again : (octets : List ℕ) → IsPassphrase octets → passphrase_in (hex octets) ≡ Some octets
     again octets h = rw (hex_reader.again octets h.octets, le-leb 1 (length octets) h.some, le-leb (length octets) LONGEST_PASSPHRASE h.few) refl
-
-abbrev pub IsAny : {A : Type 0} → A → Type 0
-IsAny value = Unit {0}
 
 word_is : (text word : List ℕ) → bytes_eq text word ≡ true → text ≡ word
 word_is text word e = (bytes_eq-Decides text word).0 e
@@ -96,10 +93,6 @@ meta_place_reader = record { found = found; again = again }
     again : (place : MetaPlace) → Unit {0} → meta_place_in (meta_place_word place) ≡ Some place
     again Header h = refl
     again Attribute h = refl
-
-pub record IsWithin (least most n : ℕ) : Type 0 where
-  pub least_is : least ≤ n
-  pub most_is : n ≤ most
 
 pub count_reader : (least most : ℕ) → most < 2 ^ 64 → IsReader (count_in least most) number (IsWithin least most)
 count_reader least most small = record { found = found; again = again }

@@ -19,14 +19,14 @@ use Rattle.text_model.specs.Line.{line, number, hex}
 use Rattle.script_model.specs.declared.op.Op.{Op}
 use Rattle.script_model.specs.declared.limits.TheConstants.{MOST_OPERATIONS}
 use Rattle.script_model.specs.Script.{IsOp, IsScript}
-use Rattle.script_model.specs.ScriptText.{op_line, script_text}
+use Rattle.script_model.specs.ScriptText.{op_line}
 use Rattle.script_text.proofs.OpReader.{op_reader, op_no_end}
 use Rattle.job_model.specs.declared.job.NameCoding.{NameCoding}
 use Rattle.job_model.specs.declared.job.NameCoding.TheVariants.{Plain, Tag70}
 use Rattle.lower_model.specs.declared.meta_place.MetaPlace.{MetaPlace}
 use Rattle.lower_model.specs.declared.meta_place.MetaPlace.TheVariants.{Header, Attribute}
 use Rattle.job_model.specs.Job.{IsPassphrase, IsSchedule}
-use Rattle.job_model.specs.JobText.{coding_word, meta_place_word, image_text}
+use Rattle.job_model.specs.JobText.{IsAny, IsWithin, coding_word, meta_place_word, image_text, session_text}
 use Rattle.line_reader.specs.Fields.{IsU64, any_number_in, number_in, sized_hex_in}
 use Rattle.line_reader.proofs.NumberReader.{number_reader, any_from_number, number_from_any}
 use Rattle.line_reader.proofs.HexReader.{sized_hex_reader}
@@ -34,11 +34,11 @@ use Rattle.job_text.specs.declared.settings.Keys.{Keys}
 use Rattle.job_text.specs.declared.settings.Making.{Making}
 use Rattle.job_text.specs.JobReading.{Part, or_wrong, word_at, field_at, times_at, passphrase_in, coding_in, meta_place_in, keys_of, keys_at, making_at, behind_end, image_or_fault, sized_image_at, image_at, count_in, op_at, script_at, scripts_at, schedule_at}
 use Rattle.job_text.proofs.LineParts.{ended, HasNoEnd, IsSlice, IsPart, IsSlice-rest, word_found, field_by, field_part, line_part, times_part}
-use Rattle.job_text.proofs.FieldReaders.{hex_no_end, number_without, passphrase_reader, IsAny, coding_reader, meta_place_reader, IsWithin, count_reader, items_text, items_reader, items_no_end}
+use Rattle.job_text.proofs.FieldReaders.{hex_no_end, number_without, passphrase_reader, coding_reader, meta_place_reader, count_reader, items_text, items_reader, items_no_end}
 
 -- ---- scripts
 
-op_part : IsPart op_at op_line IsOp
+pub op_part : IsPart op_at op_line IsOp
 unfolding op_at
 op_part = line_part op_reader op_no_end
 
@@ -54,7 +54,7 @@ counted_at word least most at octets = field_at word (count_in least most) octet
 abbrev pub counted_text : {A : Type 0} → List ℕ → (A → List ℕ) → List A → List ℕ
 counted_text word spell values = ((word ++ number (length values)) ++ 10 ∷ []) ++ flat_map spell values
 
-counted_part : {A : Type 0} {at : List ℕ → Part A} {spell : A → List ℕ} {Fits : A → Type 0} (word : List ℕ) (least most : ℕ) → HasNoEnd word → most < 2 ^ 64 → IsPart at spell Fits
+pub counted_part : {A : Type 0} {at : List ℕ → Part A} {spell : A → List ℕ} {Fits : A → Type 0} (word : List ℕ) (least most : ℕ) → HasNoEnd word → most < 2 ^ 64 → IsPart at spell Fits
     → IsPart (counted_at word least most at) (counted_text word spell) (AreCounted least most Fits)
 counted_part {A} {at} {spell} {Fits} word least most clean small p = record { found = found; again = again }
   where
@@ -76,22 +76,22 @@ counted_part {A} {at} {spell} {Fits} word least most clean small p = record { fo
         ap (counted_at word least most at) (append_assoc ((word ++ number (length values)) ++ 10 ∷ []) (flat_map spell values) rest)
         ∙ rw (l.again (length values) (flat_map spell values ++ rest) (record { least_is = h.least_is; most_is = h.most_is })) ((times_part p (length values)).again values rest (record { count_is = refl; each = h.each }))
 
-script_part : IsPart script_at script_text IsScript
+pub script_part : IsPart script_at session_text IsScript
 unfolding script_at
 script_part = record { found = found; again = again }
   where
     p : IsPart (counted_at (codes "script ") 0 MOST_OPERATIONS op_at) (counted_text (codes "script ") op_line) (AreCounted 0 MOST_OPERATIONS IsOp)
     p = counted_part (codes "script ") 0 MOST_OPERATIONS refl (omega arith) op_part
 
-    found : (octets : List ℕ) → IsSlice octets → (x : List Op × List ℕ) → script_at octets ≡ Ok x → (octets ≡ script_text x.0 ++ x.1) × IsScript x.0
+    found : (octets : List ℕ) → IsSlice octets → (x : List Op × List ℕ) → script_at octets ≡ Ok x → (octets ≡ session_text x.0 ++ x.1) × IsScript x.0
     found octets fits x e =
         let f = p.found octets fits x e in
         (f.0, record { few = f.1.most_is; ops = f.1.each })
 
-    again : (ops : List Op) (rest : List ℕ) → IsScript ops → script_at (script_text ops ++ rest) ≡ Ok (ops, rest)
+    again : (ops : List Op) (rest : List ℕ) → IsScript ops → script_at (session_text ops ++ rest) ≡ Ok (ops, rest)
     again ops rest h = p.again ops rest (record { least_is = omega arith; most_is = h.few; each = h.ops })
 
-pub scripts_part : IsPart scripts_at (counted_text (codes "sessions ") script_text) (AreCounted 1 MOST_SESSIONS IsScript)
+pub scripts_part : IsPart scripts_at (counted_text (codes "sessions ") session_text) (AreCounted 1 MOST_SESSIONS IsScript)
 unfolding scripts_at
 scripts_part = counted_part (codes "sessions ") 1 MOST_SESSIONS refl (omega arith) script_part
 
@@ -205,26 +205,26 @@ pub record AreKeys (keys : Keys) : Type 0 where
 abbrev pub keys_text : Keys → List ℕ
 keys_text keys = (line (codes "passphrase" ∷ hex keys.passphrase ∷ []) ++ line (codes "salt" ∷ hex keys.salt ∷ [])) ++ line (codes "namesalt" ∷ hex keys.namesalt ∷ [])
 
-passphrase_part : IsPart (field_at (codes "passphrase ") passphrase_in) (λ octets. line (codes "passphrase" ∷ hex octets ∷ [])) IsPassphrase
+pub passphrase_part : IsPart (field_at (codes "passphrase ") passphrase_in) (λ octets. line (codes "passphrase" ∷ hex octets ∷ [])) IsPassphrase
 passphrase_part = field_part (codes "passphrase ") refl passphrase_reader (λ octets h. hex_no_end octets h.octets)
 
-salt_part : IsPart (field_at (codes "salt ") (sized_hex_in 8)) (λ octets. line (codes "salt" ∷ hex octets ∷ [])) (HasOctets 8)
+pub salt_part : IsPart (field_at (codes "salt ") (sized_hex_in 8)) (λ octets. line (codes "salt" ∷ hex octets ∷ [])) (HasOctets 8)
 salt_part = field_part (codes "salt ") refl (sized_hex_reader 8) (λ octets h. hex_no_end octets h.octets)
 
-namesalt_part : IsPart (field_at (codes "namesalt ") (sized_hex_in 8)) (λ octets. line (codes "namesalt" ∷ hex octets ∷ [])) (HasOctets 8)
+pub namesalt_part : IsPart (field_at (codes "namesalt ") (sized_hex_in 8)) (λ octets. line (codes "namesalt" ∷ hex octets ∷ [])) (HasOctets 8)
 namesalt_part = field_part (codes "namesalt ") refl (sized_hex_reader 8) (λ octets h. hex_no_end octets h.octets)
 
-random_part : IsPart (field_at (codes "random ") (sized_hex_in 32)) (λ octets. line (codes "random" ∷ hex octets ∷ [])) (HasOctets 32)
+pub random_part : IsPart (field_at (codes "random ") (sized_hex_in 32)) (λ octets. line (codes "random" ∷ hex octets ∷ [])) (HasOctets 32)
 random_part = field_part (codes "random ") refl (sized_hex_reader 32) (λ octets h. hex_no_end octets h.octets)
 
-names_part : IsPart (field_at (codes "names ") coding_in) (λ coding. line (codes "names" ∷ coding_word coding ∷ [])) IsAny
+pub names_part : IsPart (field_at (codes "names ") coding_in) (λ coding. line (codes "names" ∷ coding_word coding ∷ [])) IsAny
 names_part = field_part (codes "names ") refl coding_reader clean
   where
     clean : (coding : NameCoding) → IsAny coding → HasNoEnd (coding_word coding)
     clean Plain h = refl
     clean Tag70 h = refl
 
-meta_place_part : IsPart (field_at (codes "meta ") meta_place_in) (λ place. line (codes "meta" ∷ meta_place_word place ∷ [])) IsAny
+pub meta_place_part : IsPart (field_at (codes "meta ") meta_place_in) (λ place. line (codes "meta" ∷ meta_place_word place ∷ [])) IsAny
 meta_place_part = field_part (codes "meta ") refl meta_place_reader clean
   where
     clean : (place : MetaPlace) → IsAny place → HasNoEnd (meta_place_word place)

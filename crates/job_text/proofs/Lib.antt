@@ -6,3 +6,6 @@ pub mod PartsInARow
 pub mod KeysRead
 mod ImageLengths
 pub mod ImageCounts
+pub mod Stops
+pub mod BadPlaces
+mod PlacesWorked

@@ -1,23 +1,21 @@
 -- A whole job: what is read is a job that is spelled so, and what is spelled so is read.
-use Rattle.std.proofs.Common.{◌≡◌, ℕ, ◌<◌, ◌≤◌, ◌^◌, true, false, List, [], ◌∷◌, ◌++◌, length, get_or, map, codes, Result, Ok, Err, refl, sym, ap, subst, ◌∙◌, append_assoc, arith}
+use Rattle.std.proofs.Common.{◌≡◌, ℕ, ◌<◌, ◌≤◌, ◌^◌, List, [], ◌∷◌, ◌++◌, length, map, codes, Ok, refl, sym, ap, subst, ◌∙◌, append_assoc, arith}
 use Rattle.std.specs.Prelude.{◌==◌}
 use Rattle.std.specs.List.{flat_map}
 use Rattle.std.proofs.lemmas.Bool.{eqb-true}
 use Rattle.std.proofs.lemmas.List.{nil_from_length, length-append}
-use Rattle.octet_model.proofs.Octets.{AreOctets-from_each}
 use Rattle.answer_model.proofs.Binds.{bind_ok, ok_is}
 use Rattle.job_model.specs.declared.limits.TheConstants.{MOST_OCTETS, MOST_SESSIONS}
 use Rattle.image_model.specs.ImageText.{image}
 use Rattle.text_model.specs.Line.{line, number, hex}
 use Rattle.script_model.specs.declared.op.Op.{Op}
 use Rattle.script_model.specs.Script.{IsScript}
-use Rattle.script_model.specs.ScriptText.{script_text}
 use Rattle.job_model.specs.declared.job.Job.{Job}
-use Rattle.job_model.specs.Job.{IsJob, IsSchedule, IsServedSoFar}
-use Rattle.job_model.specs.JobText.{IsJobText, IsNoJob, settings_text, coding_word, meta_place_word, job_text, image_text}
+use Rattle.job_model.specs.Job.{IsJob, IsSchedule}
+use Rattle.job_model.specs.JobText.{IsJobText, settings_text, coding_word, meta_place_word, job_text, image_text, session_text}
 use Rattle.job_text.specs.declared.settings.Keys.{Keys}
 use Rattle.job_text.specs.declared.settings.Making.{Making}
-use Rattle.job_text.specs.JobReading.{whole_at, keys_at, making_at, image_at, scripts_at, schedule_at, end_at, Work, work_at, job_of, job_at, is_served_so_far}
+use Rattle.job_text.specs.JobReading.{whole_at, keys_at, making_at, image_at, scripts_at, schedule_at, end_at, Work, work_at, job_of, job_at}
 use Rattle.job_text.proofs.LineParts.{IsSlice, IsSlice-rest, ended, whole_found, whole_again}
 use Rattle.job_text.proofs.JobParts.{IsImage, image_part, AreCounted, counted_text, scripts_part, schedule_part, AreKeys, keys_text, keys_part, IsMaking, making_text, making_part, joined, apart}
 
@@ -43,7 +41,7 @@ abbrev schedule_line : List ℕ → List ℕ
 schedule_line items = line (codes "schedule" ∷ map number items)
 
 abbrev sessions_text : List (List Op) → List ℕ
-sessions_text scripts = counted_text (codes "sessions ") script_text scripts
+sessions_text scripts = counted_text (codes "sessions ") session_text scripts
 
 abbrev work_text : Work → List ℕ
 work_text work = ((image_text (image work.0) ++ sessions_text work.1) ++ schedule_line work.2) ++ line (codes "end" ∷ [])
@@ -95,7 +93,7 @@ regrouped : (job : Job) → job_text job ≡ head ++ (keys_text (keys_in job) ++
 regrouped job =
     regroup head (line (codes "passphrase" ∷ hex job.passphrase ∷ [])) (line (codes "salt" ∷ hex job.salt ∷ [])) (line (codes "namesalt" ∷ hex job.namesalt ∷ []))
     (line (codes "names" ∷ coding_word job.names ∷ [])) (line (codes "meta" ∷ meta_place_word job.meta_place ∷ [])) (line (codes "random" ∷ hex job.random ∷ []))
-    (image_text (image job.image)) (line (codes "sessions" ∷ number (length job.scripts) ∷ [])) (flat_map script_text job.scripts) (schedule_line job.schedule) (line (codes "end" ∷ []))
+    (image_text (image job.image)) (line (codes "sessions" ∷ number (length job.scripts) ∷ [])) (flat_map session_text job.scripts) (schedule_line job.schedule) (line (codes "end" ∷ []))
 
 spelled_as : (job : Job) (octets : List ℕ) → octets ≡ head ++ (keys_text (keys_in job) ++ (making_text (making_in job) ++ work_text (work_in job))) → octets ≡ job_text job
 spelled_as job octets e = e ∙ sym (regrouped job)
@@ -141,14 +139,6 @@ job_again job lawful small =
     ap job_at (regrouped job)
     ∙ rw (whole_again (codes "ecryptfs-job 1") (keys_text (keys_in job) ++ (m ++ w)) refl, keys_part.again (keys_in job) (m ++ w) keys, making_part.again (making_in job) w lawful.random, work_again (work_in job) work) refl
 
--- ---- what is served so far
-
-served : (job : Job) → is_served_so_far job ≡ true → IsServedSoFar job
-served job e = record { one_session = eqb-true (length job.scripts) 1 e }
-
-serves : (job : Job) → IsServedSoFar job → is_served_so_far job ≡ true
-serves job h = rw h.one_session refl
-
 -- ---- texts of jobs
 
 within : (s l i e f c d : List ℕ) → length i ≤ length (((((s ++ ((l ++ i) ++ 10 ∷ [])) ++ e) ++ f) ++ c) ++ d)
@@ -157,39 +147,17 @@ within s l i e f c d = simp length-append (omega arith)
 image_small : (job : Job) (octets : List ℕ) → IsJobText job octets → length (image job.image) < 2 ^ 64
 image_small job octets t =
     let most : length (image job.image) ≤ length (job_text job) =
-    within (settings_text job) (line (codes "image" ∷ number (length (image job.image)) ∷ [])) (image job.image) (line (codes "sessions" ∷ number (length job.scripts) ∷ [])) (flat_map script_text job.scripts) (schedule_line job.schedule) (line (codes "end" ∷ [])) in
+    within (settings_text job) (line (codes "image" ∷ number (length (image job.image)) ∷ [])) (image job.image) (line (codes "sessions" ∷ number (length job.scripts) ∷ [])) (flat_map session_text job.scripts) (schedule_line job.schedule) (line (codes "end" ∷ [])) in
     let same : length octets ≡ length (job_text job) = ap length t.text in
     omega (arith, t.short)
 
--- what is read and served is a job with this text
-pub is_job_text : (octets : List ℕ) (job : Job) → ((i : ℕ) → get_or octets i 0 < 256) → length octets ≤ MOST_OCTETS → job_at octets ≡ Ok job → is_served_so_far job ≡ true → IsJobText job octets
-is_job_text octets job each short e test =
-    let f = job_found octets job (record { octets = AreOctets-from_each octets each; short = omega (arith, short) }) e in
-    record { lawful = f.0; served_so_far = served job test; short = short; text = f.1 }
+-- what is read is a job with this text
+pub is_job_text : (octets : List ℕ) (job : Job) → IsSlice octets → length octets ≤ MOST_OCTETS → job_at octets ≡ Ok job → IsJobText job octets
+is_job_text octets job fits short e = let f = job_found octets job fits e in record { lawful = f.0; short = short; text = f.1 }
 
-text_read : (octets : List ℕ) (job : Job) → IsJobText job octets → job_at octets ≡ Ok job
+pub text_read : (octets : List ℕ) (job : Job) → IsJobText job octets → job_at octets ≡ Ok job
 text_read octets job t = ap job_at t.text ∙ job_again job t.lawful (image_small job octets t)
 
 -- a text has one job
 pub one_job : (octets : List ℕ) (job other : Job) → job_at octets ≡ Ok job → IsJobText other octets → job ≡ other
 one_job octets job other e t = ok_is {E = ℕ} job other (sym e ∙ text_read octets other t)
-
-true_is_not : true ≡ false → ⊥
-true_is_not e = cc
-
-pub not_served : (octets : List ℕ) (job : Job) → job_at octets ≡ Ok job → is_served_so_far job ≡ false → IsNoJob octets
-not_served octets job e test other t =
-    let same = one_job octets job other e t in
-    true_is_not (sym (serves other t.served_so_far) ∙ ap is_served_so_far (sym same) ∙ test)
-
-abbrev failed : ℕ → Result Job ℕ
-failed left = Err left
-
-abbrev read_as : Job → Result Job ℕ
-read_as job = Ok job
-
-err_is_not : (job : Job) (left : ℕ) → failed left ≡ read_as job → ⊥
-err_is_not job left e = cc
-
-pub wrong_line : (octets : List ℕ) (left : ℕ) → job_at octets ≡ Err left → IsNoJob octets
-wrong_line octets left e other t = err_is_not other left (sym e ∙ text_read octets other t)

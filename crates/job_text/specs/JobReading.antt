@@ -1,5 +1,5 @@
 -- Reading a job line by line, up to the first line that isn't in the grammar at its place.
-use Rattle.std.specs.Prelude.{ℕ, zero, suc, ◌≡◌, ◌-◌, List, [], ◌∷◌, length, take, drop, codes, Option, Some, None, Result, Ok, Err, Bool, nat_lt, nat_le, ◌==◌, ◌&&◌, if◌then◌else◌}
+use Rattle.std.specs.Prelude.{ℕ, zero, suc, ◌≡◌, ◌-◌, List, [], ◌∷◌, length, take, drop, codes, Option, Some, None, Result, Ok, Err, nat_lt, nat_le, ◌==◌, ◌&&◌, ◌⊎◌, if◌then◌else◌}
 use Rattle.std.specs.List.{slice_split}
 use Rattle.std.specs.Str.{bytes_eq}
 use Rattle.answer_model.specs.Answer.{◌>>=◌, GivesAs}
@@ -214,13 +214,12 @@ job_at octets = do
   work ← work_at making.1
   Ok (job_of keys.0 making.0 work.0 work.1 work.2)
 
--- ---- what is served so far
-
-abbrev pub is_served_so_far : Job → Bool
-is_served_so_far job = length job.scripts == 1
+-- ---- the answer
 
 -- this job, or memory ran out
 abbrev pub IsJobOrMemory : Job → Result Job JobError → Type 0
-IsJobOrMemory job (Ok found) = found ≡ job
-IsJobOrMemory job (Err Memory) = Unit {0}
-IsJobOrMemory job (Err Bad) = ⊥
+IsJobOrMemory job answer = (answer ≡ Ok job) ⊎ (answer ≡ Err Memory)
+
+-- this place, or memory ran out
+abbrev pub IsBadOrMemory : ℕ → Result Job JobError → Type 0
+IsBadOrMemory place answer = (answer ≡ Err (Bad place)) ⊎ (answer ≡ Err Memory)

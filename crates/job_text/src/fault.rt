@@ -7,7 +7,12 @@ use std::alloc::{AllocError, AllocFailed};
 #[derive(Clone, Copy, Debug, PartialEq, Eq)]
 pub enum JobError {
     /// The octets are no job.
-    Bad,
+    Bad {
+        /// The first octet of the first line that isn't good where it stands, counted from 0.
+        place: usize,
+    },
+    /// There are more octets than a job may have.
+    TooLong,
     /// Memory ran out.
     Memory,
 }

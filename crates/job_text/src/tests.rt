@@ -41,19 +41,22 @@ fn reads_a_job(rt: HostRuntime) -> Result<(), Fail> {
 }
 
 #[test]
-fn refuses_a_wrong_line(rt: HostRuntime) -> Result<(), Fail> {
+fn tells_where_a_job_is_bad(rt: HostRuntime) -> Result<(), Fail> {
     let long = b"image 99999999999999999999\nECRYIMG1\0\0\0\0\n".as_slice();
-    for parts in [
-        [b"ecryptfs-job 2\n".as_slice(), IMAGE, WORK],
-        [HEAD, long, WORK],
-        [
-            HEAD,
-            IMAGE,
-            b"sessions 1\nscript 1\nsync 16\nschedule\nend\n".as_slice(),
-        ],
+    let bad_operation = b"sessions 1\nscript 1\nsync 16\nschedule\nend\n".as_slice();
+    let two = b"sessions 2\nscript 0\nscript 1\nsync 15\nschedule 1 0 1\nend\n".as_slice();
+    for (parts, place) in [
+        ([b"ecryptfs-job 2\n".as_slice(), IMAGE, WORK], Some(0)),
+        ([b"ecryptfs-job 1\n".as_slice(), b"", b""], Some(15)),
+        ([HEAD, long, WORK], Some(HEAD.len() + 27)),
+        (
+            [HEAD, IMAGE, bad_operation],
+            Some(HEAD.len() + IMAGE.len() + 20),
+        ),
+        ([HEAD, IMAGE, two], None),
     ] {
         let answer = job_of(rt.alloc(), parts)?;
-        assert_eq!(rt; answer.err(), Some(JobError::Bad));
+        assert_eq!(rt; answer.err(), place.map(|place| JobError::Bad { place }));
     }
     Ok(())
 }

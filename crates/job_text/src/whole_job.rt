@@ -1,7 +1,8 @@
-ghost use Rattle.std.specs.Prelude.{◌≡◌, IfOk, Err};
+ghost use Rattle.std.specs.Prelude.{ℕ, ◌≡◌, ◌<◌, length, IfOk, Err};
 ghost use Rattle.job_model.specs.declared.job.Job.{Job as JobValue};
-ghost use Rattle.job_model.specs.JobText.{IsJobText, IsNoJob};
-ghost use Rattle.job_text.specs.JobReading.{Gives, end_at, work_at, job_at, is_served_so_far as served_test, IsJobOrMemory};
+ghost use Rattle.job_model.specs.JobText.{IsJobText};
+ghost use Rattle.job_model.specs.BadPlace.{IsBadJob};
+ghost use Rattle.job_text.specs.JobReading.{Gives, end_at, work_at, job_at, IsJobOrMemory, IsBadOrMemory};
 
 use crate::fault::{JobError, LineError};
 use crate::image::image_of;
@@ -84,33 +85,29 @@ fn job_of(alloc: Global, octets: &[u8]) -> Result<Job, LineError>
     })
 }
 
-fn is_served_so_far(job: &Job) -> bool
-    ensures { result ≡ served_test job.now }
-{
-    job.scripts.len() == 1
-}
-
-/// The job whose text these octets are; `Bad` exactly where they are the text of none that is served so far.
+/// The job whose text these octets are; of octets that are the text of none, where they are bad.
 pub fn read_job(alloc: Global, octets: &[u8]) -> Result<Job, JobError>
     // What is read is a job with this text.
     ensures found { IfOk result (λ job. IsJobText job octets.now) }
-    // What is refused is the text of no job.
-    ensures bad { result ≡ Err JobError.Bad → IsNoJob octets.now }
-    // A text has one job.
-    ensures only { (job : JobValue) → IsJobText job octets.now → IsJobOrMemory job result }
+    // What is refused is bad at this place,
+    ensures bad { (place : ℕ) → result ≡ Err (JobError.Bad place) → IsBadJob octets.now place }
+    // or too long.
+    ensures too_long { result ≡ Err JobError.TooLong → MOST_OCTETS < length octets.now }
+    // The text of a job is read, unless memory runs out,
+    ensures every_job { (job : JobValue) → IsJobText job octets.now → IsJobOrMemory job result }
+    // octets that are bad at a place are refused with it, unless memory runs out,
+    ensures every_bad { (place : ℕ) → IsBadJob octets.now place → IsBadOrMemory place result }
+    // and octets that are too long are refused as such.
+    ensures every_long { MOST_OCTETS < length octets.now → result ≡ Err JobError.TooLong }
 {
     if octets.len() > MOST_OCTETS {
-        return Err(JobError::Bad);
+        return Err(JobError::TooLong);
     }
     match job_of(alloc, octets) {
-        Ok(job) => {
-            if is_served_so_far(&job) {
-                Ok(job)
-            } else {
-                Err(JobError::Bad)
-            }
-        }
-        Err(LineError::Wrong(_)) => Err(JobError::Bad),
+        Ok(job) => Ok(job),
+        Err(LineError::Wrong(left)) => Err(JobError::Bad {
+            place: octets.len() - left,
+        }),
         Err(LineError::Memory) => Err(JobError::Memory),
     }
 }

@@ -1,17 +1,20 @@
--- A word that names no command.
-use Rattle.std.proofs.Common.{◌≡◌, ℕ, Bool, true, false, List, None, Some, refl}
-use Rattle.std.specs.Prelude.{codes, if◌then◌else◌}
-use Rattle.std.specs.Str.{bytes_eq}
-use Rattle.std.proofs.lemmas.Slice.Eq.{bytes_eq-Decides}
-use Rattle.mount_run.specs.declared.words.Command.TheVariants.{Replay, Show}
-use Rattle.mount_run.specs.Words.{command_named}
+-- The words of one command are those of no other, but for the number of a `make`.
+use Rattle.std.proofs.Common.{◌≡◌, ℕ, refl}
+use Rattle.mount_run.specs.declared.words.Command.{Command}
+use Rattle.mount_run.specs.declared.words.Command.TheVariants.{ForJob, Make}
+use Rattle.mount_run.specs.declared.words.JobCommand.{JobCommand}
+use Rattle.mount_run.specs.declared.words.JobCommand.TheVariants.{Replay, Show}
+use Rattle.mount_run.specs.Words.{words_of}
 
-neither : (a b : Bool) → (a ≡ true → ⊥) → (b ≡ true → ⊥) → None ≡ (if a then Some Replay else if b then Some Show else None)
-neither true b no_replay no_show = absurd (no_replay refl)
-neither false true no_replay no_show = absurd (no_show refl)
-neither false false no_replay no_show = refl
+pub told_job : (command : Command) (for_job : JobCommand) → words_of command ≡ words_of (ForJob for_job) → command ≡ ForJob for_job
+told_job (ForJob Replay) Replay told = refl
+told_job (ForJob Show) Show told = refl
+told_job (ForJob Replay) Show told = absurd cc
+told_job (ForJob Show) Replay told = absurd cc
+told_job (Make m) Replay told = absurd cc
+told_job (Make m) Show told = absurd cc
 
-pub no_command : (word : List ℕ) → (word ≡ codes "replay" → ⊥) → (word ≡ codes "show" → ⊥) → None ≡ command_named word
-no_command word no_replay no_show =
-    neither (bytes_eq word (codes "replay")) (bytes_eq word (codes "show"))
-    (λ e. no_replay ((bytes_eq-Decides word (codes "replay")).0 e)) (λ e. no_show ((bytes_eq-Decides word (codes "show")).0 e))
+pub told_make : (command : Command) (n : ℕ) → words_of command ≡ words_of (Make n) → (m : ℕ) × (command ≡ Make m)
+told_make (ForJob Replay) n told = absurd cc
+told_make (ForJob Show) n told = absurd cc
+told_make (Make m) n told = (m, refl)

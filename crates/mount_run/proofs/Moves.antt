@@ -1,5 +1,5 @@
 -- Octets that move in several calls.
-use Rattle.std.proofs.Common.{◌≡◌, ℕ, zero, suc, ◌+◌, ◌<◌, ◌≤◌, List, [], ◌∷◌, ◌++◌, length, get_or, take, drop, Option, sym, ap, ◌∙◌, zero-add, arith}
+use Rattle.std.proofs.Common.{◌≡◌, ℕ, zero, suc, ◌+◌, ◌<◌, ◌≤◌, List, [], ◌∷◌, ◌++◌, length, get_or, take, drop, Option, sym, ap, ap₂, ◌∙◌, zero-add, arith}
 use Rattle.std.proofs.lemmas.Grind.{common_steps}
 use Rattle.std.proofs.lemmas.List.{take-append-drop, take_at, drop-drop, length-take-le}
 use Rattle.std.proofs.KnownBytes.{Appends-trans}
@@ -9,6 +9,12 @@ pub one_item : {X : Type 0} (xs : List X) (x : X) → 1 ≤ length xs → length
 one_item [] x low high is = absurd (omega arith)
 one_item (y ∷ []) x low high is = ap (λ z. z ∷ []) (sym is)
 one_item (y ∷ z ∷ zs) x low high is = absurd (omega arith)
+
+pub two_items : {X : Type 0} (xs : List X) (x y : X) → 2 ≤ length xs → length xs < 3 → x ≡ get_or xs 0 x → y ≡ get_or xs 1 y → xs ≡ x ∷ y ∷ []
+two_items [] x y low high first second = absurd (omega arith)
+two_items (a ∷ []) x y low high first second = absurd (omega arith)
+two_items (a ∷ b ∷ []) x y low high first second = ap₂ (λ l m. l ∷ m ∷ []) (sym first) (sym second)
+two_items (a ∷ b ∷ c ∷ xs) x y low high first second = absurd (omega arith)
 
 take_on : (at n : ℕ) (xs : List ℕ) → take at xs ++ take n (drop at xs) ≡ take (at + n) xs
 take_on zero n xs = ap (λ k. take k xs) (sym (zero-add n))

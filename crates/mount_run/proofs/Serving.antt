@@ -1,6 +1,6 @@
--- What a run writes whose script was run on a mounted tree and its files.
-use Rattle.std.proofs.Common.{◌≡◌, ◌≢◌, ℕ, zero, suc, ◌<◌, ◌%◌, ◌++◌, Bool, true, false, inl, inr, List, [], ◌∷◌, length, Some, Result, Ok, Err, refl, sym, ap, ap₂, subst, ◌∙◌, arith}
-use Rattle.std.specs.Prelude.{◌==◌, IfErr, OnOk, map, slice_get}
+-- What a replay writes whose scripts were run on a mounted tree and its files.
+use Rattle.std.proofs.Common.{◌≡◌, ◌≢◌, ℕ, zero, suc, ◌<◌, ◌%◌, ◌++◌, ◌⊎◌, Bool, true, false, inl, inr, List, length, Some, Result, Ok, Err, refl, sym, ap, ap₂, subst, ◌∙◌, arith}
+use Rattle.std.specs.Prelude.{◌==◌, OnOk, map, slice_get}
 use Rattle.std.proofs.lemmas.Bool.{false≢true}
 use Rattle.std.proofs.lemmas.Bool.Decides.{eqb_tells}
 use Rattle.std.proofs.lemmas.List.{length-map}
@@ -13,15 +13,14 @@ use Rattle.tree_model.specs.PlainTree.{PlainTree}
 use Rattle.names_model.specs.LowerPaths.{files_of}
 use Rattle.names_model.proofs.FilesFit.{files_fit}
 use Rattle.namespace_model.specs.Carried.{IsForm, Keeps, Stays}
-use Rattle.script_model.specs.declared.op.Op.{Op}
 use Rattle.session_model.specs.declared.reply.Reply.{Reply}
 use Rattle.session_model.specs.Histories.{Histories}
 use Rattle.session_model.specs.Legal.{IsLegal}
 use Rattle.session_model.specs.TreeLog.{IsTreeLog}
-use Rattle.session_model.specs.Runs.{Runs}
 use Rattle.session_model.specs.ScriptCalls.{AreScriptCalls}
-use Rattle.session_model.specs.Session.{fresh}
-use Rattle.session_model.proofs.ScriptCalls.{one_script_calls}
+use Rattle.session_model.specs.Session.{Member}
+use Rattle.session_model.specs.Walks.{InOrder, members, replies_of}
+use Rattle.session_model.proofs.ScriptCalls.{script_calls}
 use Rattle.body_model.specs.LowerFile.{LowerFile}
 use Rattle.body_model.specs.Bodies.{HeldBodies}
 use Rattle.body_model.specs.Format.{Format, IsFormat, content}
@@ -42,26 +41,20 @@ use Rattle.served_model.specs.declared.end.ReportEnd.{ReportEnd}
 use Rattle.served_model.specs.declared.end.ReportEnd.TheVariants.{Image, Stuck}
 use Rattle.served_model.specs.declared.end.TheConstants.{MAKER_PART}
 use Rattle.served_model.specs.ReportText.{Report, report_text}
-use Rattle.served_model.specs.Served.{CountsFaults, IsLeftOf, Maker, RanScripts, first_state, with_last}
+use Rattle.served_model.specs.Served.{CountsFaults, IsInOrder, IsLeftOf, IsStuckAtOpening, IsStuckAtSplit, IsStuckInOrder, Maker, RanScripts, first_state, with_last}
 use Rattle.served_model.proofs.Unopened.{unopened}
-use Rattle.mount_run.specs.declared.words.Command.TheVariants.{Replay}
-use Rattle.mount_run.specs.InputAndOutput.{Writes}
-use Rattle.mount_run.specs.Mounted.{IsMounted, IsUnchanged, IsTakenDown, IsUnitedOrNot, IsGivenBack, status_of}
+use Rattle.turn_order.specs.Replay.{IsWritten}
+use Rattle.mount_run.specs.declared.replay_output.ReplayOutput.{ReplayOutput}
+use Rattle.mount_run.specs.declared.replay_output.ReplayOutput.TheVariants as outputs
+use Rattle.mount_run.specs.Mounted.{IsMounted, IsUnchanged, IsTakenDown, IsUnitedOrNot, IsGivenBack}
+use Rattle.mount_run.specs.Replays.{Replays}
+use Rattle.mount_run.specs.Reported.{IsReport}
 use Rattle.mount_run.proofs.Leaving.{is_shown, leaves}
 use Rattle.mount_run.proofs.Mounting.{parts_of}
 
--- the report of one session
-abbrev pub report_of : List Reply → Histories → ReportEnd → Report
-report_of replies own end = record { sessions = replies ∷ []; histories = own; end = end }
-
--- how the files were written out
-abbrev pub IsWritten : {B F K : Type 0} → (B → HeldBodies) → (F → Format K) → List (ShardOver B F K) → List (ShardOver B F K) → Result (Unit {0}) StuckStore → Type 0
-IsWritten held rules ran outs (Ok done) = AreOut held rules ran outs
-IsWritten held rules ran outs (Err stuck) = IsStuckAt held ran outs stuck
-
-pub written_by : {B F K : Type 0} (held : B → HeldBodies) (rules : F → Format K) (ran outs : List (ShardOver B F K)) (out : Result (Unit {0}) StuckStore) → OnOk out (AreOut held rules ran outs) → IfErr out (IsStuckAt held ran outs) → IsWritten held rules ran outs out
-written_by held rules ran outs (Ok done) ok err = ok
-written_by held rules ran outs (Err stuck) ok err = err
+-- the report of a run
+abbrev pub report_of : List (List Reply) → Histories → ReportEnd → Report
+report_of replies own end = record { sessions = replies; histories = own; end = end }
 
 -- what holds behind a whole write-out
 pub on_written : {B F K : Type 0} (held : B → HeldBodies) (rules : F → Format K) (ran outs : List (ShardOver B F K)) (out : Result (Unit {0}) StuckStore) (P : Type 0) → IsWritten held rules ran outs out → (AreOut held rules ran outs → P) → OnOk out P
@@ -73,10 +66,9 @@ pub written_logs : {B F K : Type 0} (held : B → HeldBodies) (rules : F → For
 written_logs held rules ran outs (Ok done) written store = same_logs held rules ran outs written store
 written_logs held rules ran outs (Err stuck) written store = written.logs store
 
--- A script was run on the tree of an image that was mounted, and on its files.
-pub record IsRun {B F : Type 0} (held : B → HeldBodies) (rules : F → Format (List ℕ)) (format : F) (job : Job) (script : List Op) (before mounted : Maker) (first now : HeldNames) (opening ran : List (ShardOver B F (List ℕ)))
-    (start : PlainTree) (kept : List (List ℕ)) (last : PlainTree) (names : List (List ℕ)) (own : Histories) (replies : List Reply) : Type 0 where
-  pub one : job.scripts ≡ script ∷ []
+-- The scripts of a job were run on the tree of an image that was mounted, and on its files.
+pub record IsRun {B F : Type 0} (held : B → HeldBodies) (rules : F → Format (List ℕ)) (format : F) (job : Job) (before mounted : Maker) (first now : HeldNames) (opening ran : List (ShardOver B F (List ℕ)))
+    (start : PlainTree) (kept : List (List ℕ)) (last : PlainTree) (names : List (List ℕ)) (own : Histories) (replies : List (List Reply)) : Type 0 where
   pub laws : IsForm (form_of_job job)
   pub rules_are : rules format ≡ format_of_job job
   pub lawful : IsFormat (rules format)
@@ -84,7 +76,9 @@ pub record IsRun {B F : Type 0} (held : B → HeldBodies) (rules : F → Format 
   pub new : AreNew held rules format opening
   pub unchanged : IsUnchanged before mounted
   pub history : IsTreeLog start first.faults own.tree last now.faults
-  pub runs : Runs (fresh 0 script) own replies
+  pub walked : List Member
+  pub order : InOrder (members 0 job.scripts) job.schedule own walked
+  pub replies_are : replies ≡ replies_of walked
   pub logs : (store : ℕ) → store < stores → logs_of ran store ≡ logs_of opening store ++ entries_in store own.file
   pub goes : FilesGoOn held rules opening ran
   pub told : now.told ≡ first.told
@@ -92,9 +86,9 @@ pub record IsRun {B F : Type 0} (held : B → HeldBodies) (rules : F → Format 
   pub keeps : now.told ≡ true → Keeps (form_of_job job) last.places names now.entries
   pub stays : first.told ≡ true → Stays (form_of_job job) start.places kept first.entries last.places names now.entries
 
-module _ {B F : Type 0} (held : B → HeldBodies) (rules : F → Format (List ℕ)) (format : F) (job : Job) (script : List Op) (before mounted : Maker) (first now : HeldNames) (opening ran : List (ShardOver B F (List ℕ)))
-    (start : PlainTree) (kept : List (List ℕ)) (last : PlainTree) (names : List (List ℕ)) (own : Histories) (replies : List Reply)
-    (run : IsRun held rules format job script before mounted first now opening ran start kept last names own replies) where
+module _ {B F : Type 0} (held : B → HeldBodies) (rules : F → Format (List ℕ)) (format : F) (job : Job) (before mounted : Maker) (first now : HeldNames) (opening ran : List (ShardOver B F (List ℕ)))
+    (start : PlainTree) (kept : List (List ℕ)) (last : PlainTree) (names : List (List ℕ)) (own : Histories) (replies : List (List Reply))
+    (run : IsRun held rules format job before mounted first now opening ran start kept last names own replies) where
   abbrev Shards : Type 0
   Shards = List (ShardOver B F (List ℕ))
 
@@ -105,6 +99,9 @@ module _ {B F : Type 0} (held : B → HeldBodies) (rules : F → Format (List �
   all =
       let bodies : List B = map (λ (s : ShardOver B F (List ℕ)). s.bodies) opening in
       sym (length-map opening (λ (s : ShardOver B F (List ℕ)). s.bodies)) ∙ sym (length-map bodies held) ∙ run.is_mounted.fresh.stores
+
+  calls : AreScriptCalls job.scripts own replies
+  calls = subst (λ (told : List (List Reply)). AreScriptCalls job.scripts own told) (sym run.replies_are) (script_calls job.scripts job.schedule own run.walked run.order)
 
   -- the logs at the end are those of the shards of one log
   pub logs_are : (outs : Shards) → length outs ≡ stores → (out : Result (Unit {0}) StuckStore) → IsWritten held rules ran outs out → AreShardLogs (map (λ (s : ShardOver B F (List ℕ)). s.log) outs) own.file
@@ -175,8 +172,11 @@ module _ {B F : Type 0} (held : B → HeldBodies) (rules : F → Format (List �
       legal = at_last.lawful;
       counts = λ store within. counts held rules format opening ran own.file all run.new run.goes run.logs store within (calm_first store);
     };
-    script_calls = subst (λ (scripts : List (List Op)). AreScriptCalls scripts own (replies ∷ [])) (sym run.one) (one_script_calls script own replies run.runs);
+    script_calls = calls;
   }
+
+  in_order : (end : ReportEnd) → IsInOrder job (report_of replies own end)
+  in_order end = record { last = run.walked; order = run.order; replies = run.replies_are }
 
   -- ---- the end of a run
 
@@ -202,42 +202,47 @@ module _ {B F : Type 0} (held : B → HeldBodies) (rules : F → Format (List �
           faults_in held outs store ∙ at.others store other)
     ]
 
-  module _ (outs : Shards) (after : Maker) (text : List ℕ) where
+  module _ (outs : Shards) (after : Maker) where
     -- what was not opened is as it was
     kept_file : (tells : before.tells ≡ true) (out : AreOut held rules ran outs) (node : ℕ) → node < length start.places → (slice_get start.places node ≡ Some File → ⊥) → file_at (bodies_of held outs) node ≡ image_files node
     kept_file tells out node within no_file =
-        let closed : was_opened node own.file ≡ false = unopened (fresh 0 script) own replies start last first.faults now.faults refl run.runs run.history node within no_file in
+        let closed : was_opened node own.file ≡ false = unopened job.scripts own replies start last first.faults now.faults calls run.history node within no_file in
         subst (λ (b : Bool). MayBeLeft (format_of_job job) (image_files node) node b (at_last.states node) (file_at (bodies_of held outs) node)) closed (at_last.leaves_so tells outs out node)
 
-    by_end : (end e : ReportEnd) → e ≡ end → AreOut held rules ran outs → IsUnitedOrNot mounted after (parts_of now (bodies_of held outs)) e → text ≡ report_text (report_of replies own end) → Writes Replay job before after (status_of e) text
-    by_end end (Image image) is out down spelled = inl (
-      refl,
+    united : (end e : ReportEnd) (output : ReplayOutput) → e ≡ end → AreOut held rules ran outs → IsUnitedOrNot mounted after (parts_of now (bodies_of held outs)) e → IsReport e (report_text (report_of replies own end)) output → Replays job before after output
+    united end (Image image) (outputs.Report out_image text) is out down written = (
       record {
-        report = report_of replies own end;
-        end = last;
-        files = at_last.states;
-        faults = faults;
-        ran = did_run end;
-        counted = counts_as outs after down.counted faults (same_faults outs after down.counted out);
-        image = image;
-        prints = sym is;
-        lawful = down.ends.lawful;
-        leaves = λ tells.
-            (let t = run.is_mounted.tells tells in
-            let names_tell = run.told ∙ t.tell.names in
-            let all_tell : TellAll (parts_of now (bodies_of held outs)) = record { names = names_tell; bodies = told_outs tells outs out } in
-            leaves (form_of_job job) job.image first now (bodies_of held opening) (bodies_of held outs) start kept last names t (run.stays t.tell.names) run.laws run.is_mounted.is_tree (run.keeps names_tell) run.tree image down.ends.lawful
-            (down.ends.same (run.unchanged.tells ∙ tells) all_tell) (IsLeftOf job own.file at_last.states) (at_last.leaves_so tells outs out) (kept_file tells out));
-        calm = down.ends.calm ∙ run.unchanged.faults;
-        text = spelled;
+        in_order = in_order end;
+        served = record {
+          report = report_of replies own end;
+          end = last;
+          files = at_last.states;
+          faults = faults;
+          ran = did_run end;
+          counted = counts_as outs after down.counted faults (same_faults outs after down.counted out);
+          image = image;
+          prints = sym is;
+          lawful = down.ends.lawful;
+          leaves = λ tells.
+              (let t = run.is_mounted.tells tells in
+              let names_tell = run.told ∙ t.tell.names in
+              let all_tell : TellAll (parts_of now (bodies_of held outs)) = record { names = names_tell; bodies = told_outs tells outs out } in
+              leaves (form_of_job job) job.image first now (bodies_of held opening) (bodies_of held outs) start kept last names t (run.stays t.tell.names) run.laws run.is_mounted.is_tree (run.keeps names_tell) run.tree image down.ends.lawful
+              (down.ends.same (run.unchanged.tells ∙ tells) all_tell) (IsLeftOf job own.file at_last.states) (at_last.leaves_so tells outs out) (kept_file tells out));
+          calm = down.ends.calm ∙ run.unchanged.faults;
+          text = written.0;
+        };
       },
+      written.1,
     )
-    by_end end (Stuck part low high) is out down spelled =
+    united end (Image image) (outputs.Stuck text) is out down written = absurd written
+    united end (Stuck part low high) (outputs.Report out_image text) is out down written = absurd written
+    united end (Stuck part low high) (outputs.Stuck text) is out down written =
         let first_is : low ≡ before.faults = down.ends.first_is ∙ run.unchanged.faults in
         let stuck : Stuck part low high ≡ Stuck MAKER_PART before.faults after.faults = rw (down.ends.part_is, first_is, down.ends.last_is) refl in
-        inr (
-          refl,
-          inr (inr (inr (record {
+        record {
+          in_order = in_order end;
+          stuck = inr (inr (inr (record {
             report = report_of replies own end;
             end = last;
             files = at_last.states;
@@ -246,17 +251,20 @@ module _ {B F : Type 0} (held : B → HeldBodies) (rules : F → Format (List �
             counted = counts_as outs after down.counted faults (same_faults outs after down.counted out);
             rose = subst (λ (n : ℕ). Rose n after.faults) run.unchanged.faults down.ends.rose;
             prints = sym is ∙ stuck;
-            text = spelled;
-          }))),
-        )
+            text = written;
+          })));
+        }
 
-    given_back : (end : ReportEnd) (stuck : StuckStore) → IsStuckAt held ran outs stuck → IsGivenBack mounted after (parts_of now (bodies_of held outs)) stuck end → text ≡ report_text (report_of replies own end) → Writes Replay job before after (status_of end) text
+    given_back : (end : ReportEnd) (output : ReplayOutput) (stuck : StuckStore) → IsStuckAt held ran outs stuck → IsGivenBack mounted after (parts_of now (bodies_of held outs)) stuck end → IsReport end (report_text (report_of replies own end)) output → Replays job before after output
     unfolding faults
-    given_back end stuck at down spelled =
-        let is : end ≡ Stuck (suc at.store) (faults_at held (slice_get ran at.store)) stuck.after = down.end_is ∙ rw (at.part_is, at.first_is) refl in
-        subst (λ (s : ℕ). Writes Replay job before after s text) (sym (ap status_of down.end_is)) (inr (
-          refl,
-          inr (inr (inl (record {
+    given_back (Image image) output stuck at down written = (let is = down.end_is in absurd cc)
+    given_back (Stuck part low high) (outputs.Report out_image text) stuck at down written = absurd written
+    given_back (Stuck part low high) (outputs.Stuck text) stuck at down written =
+        let end = Stuck part low high in
+        let is : Stuck part low high ≡ Stuck (suc at.store) (faults_at held (slice_get ran at.store)) stuck.after = down.end_is ∙ rw (at.part_is, at.first_is) refl in
+        record {
+          in_order = in_order end;
+          stuck = inr (inr (inl (record {
             report = report_of replies own end;
             end = last;
             files = at_last.states;
@@ -269,11 +277,16 @@ module _ {B F : Type 0} (held : B → HeldBodies) (rules : F → Format (List �
             counted = counts_as outs after down.counted (with_last (suc at.store) stuck.after faults) (last_faults outs after down.counted stuck at);
             calm = down.calm ∙ run.unchanged.faults;
             prints = is;
-            text = spelled;
-          }))),
-        ))
+            text = written;
+          })));
+        }
 
-    pub writes : (out : Result (Unit {0}) StuckStore) (end : ReportEnd) → IsWritten held rules ran outs out → IsTakenDown mounted after (parts_of now (bodies_of held outs)) out end → text ≡ report_text (report_of replies own end)
-        → Writes Replay job before after (status_of end) text
-    writes (Ok done) end written down spelled = by_end end end refl written down spelled
-    writes (Err stuck) end written down spelled = given_back end stuck written down spelled
+    pub replays : (out : Result (Unit {0}) StuckStore) (end : ReportEnd) (output : ReplayOutput) → IsWritten held rules ran outs out → IsTakenDown mounted after (parts_of now (bodies_of held outs)) out end → IsReport end (report_text (report_of replies own end)) output
+        → Replays job before after output
+    replays (Ok done) end output written down report = united end end output refl written down report
+    replays (Err stuck) end output written down report = given_back end output stuck written down report
+
+-- nothing was mounted
+pub stuck_before : (job : Job) (before after : Maker) (text : List ℕ) → IsStuckAtSplit before after text ⊎ IsStuckAtOpening before after text → IsStuckInOrder job before after text
+stuck_before job before after text (inl split) = record { stuck = inl split; in_order = tt }
+stuck_before job before after text (inr opening) = record { stuck = inr (inl opening); in_order = tt }

@@ -1,7 +1,9 @@
-pub mod GoesOn
 pub mod InputAndOutput
 pub mod Memory
 pub mod Mounted
+pub mod Refusals
+pub mod Replays
+pub mod Reported
 pub mod ShowLines
 pub mod SourceAndSink
 pub mod Status

@@ -19,7 +19,6 @@ use Rattle.served_model.specs.Served.{Maker, IsStuckAtSplit, IsStuckAtOpening}
 use Rattle.mounted_files.specs.declared.shards.StuckStore.{StuckStore}
 use Rattle.mount_run.specs.declared.mount.MountError.{MountError}
 use Rattle.mount_run.specs.declared.mount.MountError.TheVariants as errors
-use Rattle.mount_run.specs.declared.status.TheConstants.{OK, LOWER_FAULT}
 
 -- The maker counts what it did.
 pub record IsUnchanged (before after : Maker) : Type 0 where
@@ -79,8 +78,3 @@ pub record IsGivenBack (before after : Maker) (parts : HeldParts) (stuck : Stuck
 abbrev pub IsTakenDown : Maker → Maker → HeldParts → Result (Unit {0}) StuckStore → ReportEnd → Type 0
 IsTakenDown before after parts (Ok done) end = IsUnitedOrNot before after parts end
 IsTakenDown before after parts (Err stuck) end = IsGivenBack before after parts stuck end
-
--- the status of a report that ends so
-abbrev pub status_of : ReportEnd → ℕ
-status_of (Image image) = OK
-status_of (Stuck part first last) = LOWER_FAULT

@@ -3,10 +3,13 @@
 
 mod answer;
 mod listed;
+mod make;
 mod memory;
 mod mount;
-mod mounted_tree;
 mod output;
+mod refusal;
+mod replay_job;
+mod replay_output;
 mod ring;
 mod run;
 mod serve;
@@ -19,4 +22,6 @@ mod words;
 pub use memory::{MemSink, MemSource};
 pub use run::run_alone;
 pub use source_and_sink::{Failed, Sink, Source};
-pub use status::{BAD_JOB, LOWER_FAULT, MEMORY, OK, READ_FAULT, USAGE, WRITE_FAULT, status_name};
+pub use status::{
+    BAD_JOB, LOWER_FAULT, MEMORY, OK, READ_FAULT, TOO_LONG, USAGE, WRITE_FAULT, status_name,
+};

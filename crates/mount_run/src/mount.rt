@@ -4,9 +4,8 @@ ghost use Rattle.name_form.specs.FormOf.{form_of};
 ghost use Rattle.lower_tree.specs.Making.{held_parts, HoldSomeTree};
 ghost use Rattle.mounted_files.specs.Files.{AreNew};
 ghost use Rattle.mount_run.specs.InputAndOutput.{maker_of};
-ghost use Rattle.mount_run.specs.Mounted.{IsUnchanged, IsMounted, FailsToMount, IsTakenDown, IsUnitedOrNot, status_of};
+ghost use Rattle.mount_run.specs.Mounted.{IsUnchanged, IsMounted, FailsToMount, IsTakenDown, IsUnitedOrNot};
 
-use crate::status::{LOWER_FAULT, OK};
 use lower_model::LowerTree;
 use lower_tree::{BodyFormat, LowerBodies, LowerError, LowerMaker, LowerNames, Parts, Steps};
 use mounted_files::{MountedFiles, StuckStore};
@@ -143,15 +142,5 @@ pub fn unmount<M: LowerMaker>(
                 after: stuck.after,
             })
         }
-    }
-}
-
-/// The status of a run whose report ends so.
-pub fn status_of(end: &ReportEnd) -> u8
-    ensures { result ≡ status_of end.now }
-{
-    match end {
-        ReportEnd::Image(_) => OK,
-        ReportEnd::Stuck { .. } => LOWER_FAULT,
     }
 }

@@ -22,6 +22,9 @@ pub const WRITE_FAULT: u8 = 5;
 /// A lower part failed where the run couldn't go on without it.
 pub const LOWER_FAULT: u8 = 6;
 
+/// The input has more octets than a job may have.
+pub const TOO_LONG: u8 = 7;
+
 /// What a status other than `OK` is called on standard error.
 pub fn status_name(status: u8) -> &'static str
     ensures { result.now ≡ status_word status }
@@ -34,6 +37,7 @@ pub fn status_name(status: u8) -> &'static str
         READ_FAULT => "read fault",
         WRITE_FAULT => "write fault",
         LOWER_FAULT => "lower fault",
+        TOO_LONG => "too long",
         _ => "unknown",
     }
 }

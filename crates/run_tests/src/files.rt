@@ -1,8 +1,8 @@
+use crate::report::{assert_shown, image_in};
 use crate::run::{EMPTY_IMAGE, FAULTLESS, Failing, failing_run, job, job_with};
 use lower_tree::LowerMaker;
 use mount_run::{LOWER_FAULT, OK};
 use std::alloc::{AllocError, Global};
-use std::process::Abort;
 use std::test::Fail;
 
 /// Two files, which are the nodes 1 and 2: one is written over the edge of its extents, cut, and grows; each line that writes to a lower
@@ -48,34 +48,6 @@ fn faults_told(report: &[u8]) -> usize {
         .split(|c| *c == b'\n')
         .filter(|line| *line == b"err lower".as_slice())
         .count()
-}
-
-/// The image in a report; nothing where it has none.
-fn image_in(report: &[u8]) -> &[u8] {
-    let word = b"\nimage ".as_slice();
-    let Some(place) = report.windows(word.len()).position(|window| window == word) else {
-        return &[];
-    };
-    let behind = &report[place + word.len()..];
-    let Some(end) = behind.iter().position(|c| *c == b'\n') else {
-        return &[];
-    };
-    // Behind the image stand a line end and the line `end`.
-    &behind[end + 1..behind.len().saturating_sub(5).max(end + 1)]
-}
-
-fn assert_shown(
-    rt: &impl Abort,
-    alloc: Global,
-    meta: &str,
-    report: &[u8],
-    wanted: &[u8],
-) -> Result<(), Fail> {
-    let octets = job_with(alloc, meta, image_in(report), &[])?;
-    let (status, shown, _) = failing_run(alloc, "show", octets, FAULTLESS)?;
-    assert_eq!(rt; status, OK);
-    assert_eq!(rt; shown.as_slice(), wanted);
-    Ok(())
 }
 
 // Each call that changes the first file fails in turn: a line tells it, the next line does it, and the contents are those of the script.

@@ -13,10 +13,14 @@ mod listings;
 #[cfg(test)]
 mod lower_faults;
 #[cfg(test)]
+mod make;
+#[cfg(test)]
 mod replay;
 #[cfg(test)]
 mod report;
 #[cfg(test)]
 mod run;
+#[cfg(test)]
+mod sessions;
 #[cfg(test)]
 mod show;

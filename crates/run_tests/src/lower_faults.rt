@@ -226,7 +226,7 @@ fn one_maker_fails_in_three_runs(rt: HostRuntime) -> Result<(), Fail> {
     ];
     for text in wanted {
         let octets = job_of(alloc, EMPTY_IMAGE, &lines)?;
-        let (status, written) = run_over(alloc, &mut lower, "replay", octets, failing)?;
+        let (status, written) = run_over(alloc, &mut lower, &["replay"], octets, failing)?;
         assert_eq!(rt; status, LOWER_FAULT);
         assert_eq!(rt; written, text);
     }

@@ -20,6 +20,19 @@ fn the_report_of_no_operations(rt: HostRuntime) -> Result<(), Fail> {
     Ok(())
 }
 
+#[test]
+fn the_report_of_a_new_directory(rt: HostRuntime) -> Result<(), Fail> {
+    let alloc = rt.alloc();
+    let octets = job(alloc, EMPTY_IMAGE, &["mkdir /a", "list /"])?;
+    let (status, report) = run(alloc, "replay", octets)?;
+    assert_eq!(rt; status, OK);
+    let wanted = b"ecryptfs-report 1\nsession 0 2\nok\nnames d:a\ntree 2\n\
+        0 0 0 0 mkdir /a = ok\n0 1 0 0 list / = names d:a\n\
+        image 17\nECRYIMG1\x00\x00\x00\x01\x00\x01\x00\x01a\nend\n";
+    assert_eq!(rt; report.as_slice(), wanted.as_slice());
+    Ok(())
+}
+
 // The image has a file `f` with an attribute and a body, which is carried along.
 #[test]
 fn the_report_of_each_reply(rt: HostRuntime) -> Result<(), Fail> {

@@ -1,4 +1,4 @@
-use crate::run::{job, run};
+use crate::run::{job, job_with, run};
 use mount_run::OK;
 use std::alloc::{AllocError, Global};
 use std::process::Abort;
@@ -56,5 +56,34 @@ pub fn assert_replies(
     let (status, written) = run(alloc, "replay", job_of(alloc, image, lines)?)?;
     assert_eq!(rt; status, OK);
     assert_eq!(rt; written, report(alloc, lines, behind)?);
+    Ok(())
+}
+
+/// The image in a report; nothing where it has none.
+pub fn image_in(report: &[u8]) -> &[u8] {
+    let word = b"\nimage ".as_slice();
+    let Some(place) = report.windows(word.len()).position(|window| window == word) else {
+        return &[];
+    };
+    let behind = &report[place + word.len()..];
+    let Some(end) = behind.iter().position(|c| *c == b'\n') else {
+        return &[];
+    };
+    // Behind the image stand a line end and the line `end`.
+    &behind[end + 1..behind.len().saturating_sub(5).max(end + 1)]
+}
+
+/// The image in a report is to be shown so.
+pub fn assert_shown(
+    rt: &impl Abort,
+    alloc: Global,
+    meta: &str,
+    report: &[u8],
+    wanted: &[u8],
+) -> Result<(), Fail> {
+    let octets = job_with(alloc, meta, image_in(report), &[])?;
+    let (status, shown) = run(alloc, "show", octets)?;
+    assert_eq!(rt; status, OK);
+    assert_eq!(rt; shown.as_slice(), wanted);
     Ok(())
 }

@@ -4,13 +4,18 @@ use std::alloc::{AllocError, Global};
 
 pub const EMPTY_IMAGE: &[u8] = b"ECRYIMG1\x00\x00\x00\x00";
 
-/// A job on this image, whose one session has these script lines, and whose new files have their metadata in this place.
-pub fn job_with(
-    alloc: Global,
-    meta: &str,
-    image: &[u8],
-    lines: &[&str],
-) -> Result<Vec<u8>, AllocError> {
+/// Adds a script of these lines to a job.
+fn put_script(alloc: Global, octets: &mut Vec<u8>, lines: &[&str]) -> Result<(), AllocError> {
+    octets.extend_from_slice(format!(in alloc; "script {}\n", lines.len())?.as_bytes())?;
+    for line in lines {
+        octets.extend_from_slice(line.as_bytes())?;
+        octets.push(b'\n')?;
+    }
+    Ok(())
+}
+
+// The lines of a job up to its image, and the image.
+fn settings_and_image(alloc: Global, meta: &str, image: &[u8]) -> Result<Vec<u8>, AllocError> {
     let mut octets = Vec::new(alloc);
     octets.extend_from_slice(b"ecryptfs-job 1\npassphrase 74657374\nsalt 0011223344556677\n")?;
     octets.extend_from_slice(b"namesalt 0011223344556677\nnames plain\nmeta ")?;
@@ -19,12 +24,41 @@ pub fn job_with(
     octets.extend_from_slice(&[b'0'; 64])?;
     octets.extend_from_slice(format!(in alloc; "\nimage {}\n", image.len())?.as_bytes())?;
     octets.extend_from_slice(image)?;
-    octets.extend_from_slice(b"\nsessions 1\n")?;
-    octets.extend_from_slice(format!(in alloc; "script {}\n", lines.len())?.as_bytes())?;
-    for line in lines {
-        octets.extend_from_slice(line.as_bytes())?;
-        octets.push(b'\n')?;
+    Ok(octets)
+}
+
+/// A job on this image, whose sessions have these scripts, whose schedule has these items, and whose new files have their metadata in
+/// this place.
+pub fn job_of_sessions(
+    alloc: Global,
+    meta: &str,
+    image: &[u8],
+    scripts: &[&[&str]],
+    schedule: &[u32],
+) -> Result<Vec<u8>, AllocError> {
+    let mut octets = settings_and_image(alloc, meta, image)?;
+    octets.extend_from_slice(format!(in alloc; "\nsessions {}\n", scripts.len())?.as_bytes())?;
+    for lines in scripts {
+        put_script(alloc, &mut octets, lines)?;
     }
+    octets.extend_from_slice(b"schedule")?;
+    for session in schedule {
+        octets.extend_from_slice(format!(in alloc; " {session}")?.as_bytes())?;
+    }
+    octets.extend_from_slice(b"\nend\n")?;
+    Ok(octets)
+}
+
+/// A job of one session with these script lines.
+pub fn job_with(
+    alloc: Global,
+    meta: &str,
+    image: &[u8],
+    lines: &[&str],
+) -> Result<Vec<u8>, AllocError> {
+    let mut octets = settings_and_image(alloc, meta, image)?;
+    octets.extend_from_slice(b"\nsessions 1\n")?;
+    put_script(alloc, &mut octets, lines)?;
     octets.extend_from_slice(b"schedule\nend\n")?;
     Ok(octets)
 }
@@ -68,18 +102,21 @@ pub fn maker(alloc: Global, failing: Failing) -> Result<MemMaker, AllocError> {
     }))
 }
 
-/// What a run with this one word over a maker answers and writes, where reads and writes fail so.
+/// What a run with these words over a maker answers and writes, where reads and writes fail so.
 pub fn run_over(
     alloc: Global,
     maker: &mut MemMaker,
-    word: &str,
+    words: &[&str],
     octets: Vec<u8>,
     failing: Failing,
 ) -> Result<(u8, Vec<u8>), AllocError> {
-    let words = vec![in alloc; String::from_str(alloc, word)?]?;
+    let mut texts = Vec::new(alloc);
+    for word in words {
+        texts.push(String::from_str(alloc, word)?)?;
+    }
     let mut input = MemSource::new(octets, failing.reads.to_vec(alloc)?);
     let mut output = MemSink::new(failing.writes.to_vec(alloc)?);
-    let status = run_alone(alloc, &words, &mut input, &mut output, maker);
+    let status = run_alone(alloc, &texts, &mut input, &mut output, maker);
     let written = output.written().to_vec(alloc)?;
     Ok((status, written))
 }
@@ -92,7 +129,7 @@ pub fn failing_run(
     failing: Failing,
 ) -> Result<(u8, Vec<u8>, MemMaker), AllocError> {
     let mut maker = maker(alloc, failing)?;
-    let (status, written) = run_over(alloc, &mut maker, word, octets, failing)?;
+    let (status, written) = run_over(alloc, &mut maker, &[word], octets, failing)?;
     Ok((status, written, maker))
 }
 

@@ -5,13 +5,10 @@ use Rattle.tree_model.specs.declared.place.Place.{Place}
 use Rattle.tree_model.specs.declared.place.Place.TheVariants.{File}
 use Rattle.tree_model.specs.PlainTree.{PlainTree}
 use Rattle.session_model.specs.declared.reply.Reply.{Reply}
-use Rattle.session_model.specs.declared.session.Hand.TheVariants as hands
-use Rattle.session_model.specs.Session.{Session}
 use Rattle.session_model.specs.Histories.{Histories}
-use Rattle.session_model.specs.Runs.{Runs}
 use Rattle.session_model.specs.ScriptCalls.{AreScriptCalls}
 use Rattle.session_model.specs.TreeLog.{IsTreeLog}
-use Rattle.session_model.proofs.OpenedNodes.{IsOfFile, told_by_log, opened_as_told, all_opened_as_told}
+use Rattle.session_model.proofs.OpenedNodes.{IsOfFile, told_by_log, all_opened_as_told}
 use Rattle.file_model.specs.Shard.{was_opened}
 use Rattle.file_model.proofs.Unopened.{not_opened}
 
@@ -20,14 +17,8 @@ not_of_file : (places : List Place) (n : ℕ) → n < length places → (slice_g
 not_of_file places n lt none (inl there) = none there
 not_of_file places n lt none (inr later) = absurd (omega arith)
 
--- one session that has nothing in hand
-pub unopened : (s : Session) (own : Histories) (replies : List Reply) (start end : PlainTree) (first last : ℕ) → s.hand ≡ hands.Nothing → Runs s own replies → IsTreeLog start first own.tree end last
-    → (n : ℕ) → n < length start.places → (slice_get start.places n ≡ Some File → ⊥) → was_opened n own.file ≡ false
-unopened s own replies start end first last ready runs tree n lt none =
-    not_opened (IsOfFile start.places) n own.file (not_of_file start.places n lt none) (opened_as_told (IsOfFile start.places) s own replies ready runs (told_by_log start first own.tree end last tree))
-
--- all sessions of a run
-pub all_unopened : (scripts : _) (all : Histories) (sessions : List (List Reply)) (start end : PlainTree) (first last : ℕ) → AreScriptCalls scripts all sessions → IsTreeLog start first all.tree end last
+-- in any session of a run
+pub unopened : (scripts : _) (all : Histories) (sessions : List (List Reply)) (start end : PlainTree) (first last : ℕ) → AreScriptCalls scripts all sessions → IsTreeLog start first all.tree end last
     → (n : ℕ) → n < length start.places → (slice_get start.places n ≡ Some File → ⊥) → was_opened n all.file ≡ false
-all_unopened scripts all sessions start end first last calls tree n lt none =
+unopened scripts all sessions start end first last calls tree n lt none =
     not_opened (IsOfFile start.places) n all.file (not_of_file start.places n lt none) (all_opened_as_told (IsOfFile start.places) scripts all sessions calls (told_by_log start first all.tree end last tree))

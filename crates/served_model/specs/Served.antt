@@ -1,5 +1,6 @@
 -- What it means that an output serves a job.
 use Rattle.std.specs.Prelude.{◌≡◌, ◌==◌, ℕ, zero, suc, ◌<◌, ◌⊎◌, if◌then◌else◌, Bool, true, List, []}
+use mathlib.Core.Logic.{inl, inr}
 use Rattle.answer_model.specs.Count.{Rose}
 use Rattle.lower_model.specs.declared.node.LowerNode.{LowerNode}
 use Rattle.lower_model.specs.LowerTree.{IsLowerTree}
@@ -21,6 +22,8 @@ use Rattle.session_model.specs.declared.entry.FileEntry.{FileEntry}
 use Rattle.session_model.specs.Legal.{IsLegal, CountsFrom}
 use Rattle.session_model.specs.TreeLog.{IsTreeLog}
 use Rattle.session_model.specs.ScriptCalls.{AreScriptCalls}
+use Rattle.session_model.specs.Session.{Member}
+use Rattle.session_model.specs.Walks.{InOrder, members, replies_of}
 use Rattle.job_model.specs.declared.job.Job.{Job}
 use Rattle.served_model.specs.declared.end.ReportEnd.TheVariants.{Image, Stuck}
 use Rattle.served_model.specs.declared.end.TheConstants.{MAKER_PART, NAMES_PART, PARTS}
@@ -151,3 +154,29 @@ pub record IsStuckAtUnite (job : Job) (before after : Maker) (output : List ℕ)
 abbrev pub IsStuck : Job → Maker → Maker → List ℕ → Type 0
 IsStuck job before after output =
     IsStuckAtSplit before after output ⊎ IsStuckAtOpening before after output ⊎ IsStuckAtWriteOut job before after output ⊎ IsStuckAtUnite job before after output
+
+-- ---- the order of a schedule
+
+-- The histories are those of a walk: for each item of the job's schedule that session makes its next call, or does its next operation that makes none; then the sessions run to their ends, in
+-- rising order. These are the replies that they get.
+pub record IsInOrder (job : Job) (report : Report) : Type 0 where
+  pub last : List Member
+  pub order : InOrder (members 0 job.scripts) job.schedule report.histories last
+  pub replies : report.sessions ≡ replies_of last
+
+-- The output serves the job, in the order of its schedule.
+pub record ServedInOrder (job : Job) (before after : Maker) (output : List ℕ) : Type 0 where
+  pub served : Served job before after output
+  pub in_order : IsInOrder job served.report
+
+-- where the scripts ran, it was in the order of the schedule
+abbrev pub RanInOrder : (job : Job) (before after : Maker) (output : List ℕ) → IsStuck job before after output → Type 0
+RanInOrder job before after output (inl split) = Unit {0}
+RanInOrder job before after output (inr (inl opening)) = Unit {0}
+RanInOrder job before after output (inr (inr (inl write_out))) = IsInOrder job write_out.report
+RanInOrder job before after output (inr (inr (inr unite))) = IsInOrder job unite.report
+
+-- A failure of the lower parts ended the run, whose histories are in the order of the schedule, if it has any.
+pub record IsStuckInOrder (job : Job) (before after : Maker) (output : List ℕ) : Type 0 where
+  pub stuck : IsStuck job before after output
+  pub in_order : RanInOrder job before after output stuck

@@ -1,8 +1,7 @@
 -- Rooms that fit the slots, one answer on.
 use Rattle.std.proofs.Common.{◌≡◌, ◌≢◌, ℕ, zero, suc, Bool, true, false, List, [], ◌∷◌, Option, Some, refl, sym, subst, ap, ◌∙◌}
-use Rattle.std.specs.Prelude.{slice_get, slice_set, replicate, ◌==◌}
+use Rattle.std.specs.Prelude.{slice_get, slice_set, ◌==◌}
 use Rattle.std.proofs.lemmas.Bool.{eqb-false, eqb-true}
-use Rattle.script_model.specs.declared.limits.TheConstants.{SLOTS}
 use Rattle.session_model.specs.declared.file.FileReply.{FileReply}
 use Rattle.session_model.specs.declared.file.FileReply.TheVariants as file_replies
 use Rattle.session_model.specs.declared.session.Slot.{Slot}
@@ -11,21 +10,10 @@ use Rattle.session_model.specs.declared.session.Hand.{Hand}
 use Rattle.session_model.specs.declared.session.Hand.TheVariants as hands
 use Rattle.session_model.specs.declared.session.Answer.{Answer}
 use Rattle.session_model.specs.declared.session.Answer.TheVariants as answers
-use Rattle.session_model.specs.Session.{Session, Member, IsFresh, told, settled, heard, heard_attached, heard_closed}
+use Rattle.session_model.specs.Session.{Session, told, settled, heard, heard_attached, heard_closed}
 use Rattle.session_model.specs.Runs.{is_open}
 use Rattle.session_model.proofs.Joins.{get_set_other}
 use Rattle.session_run.specs.Rooms.{HasRoom, Fits}
-
-all_closed : (n slot : ℕ) → is_open (slice_get (replicate n Closed) slot) ≡ false
-all_closed zero slot = refl
-all_closed (suc n) zero = refl
-all_closed (suc n) (suc slot) = all_closed n slot
-
--- before the first operation no slot is open
-pub fits_fresh : {L : Type 0} → (m : Member) (rooms : List (Option L)) → IsFresh m → Fits m.session.slots rooms
-fits_fresh m rooms fresh slot opened =
-    let none : is_open (slice_get m.session.slots slot) ≡ false = ap (λ (x : Member). is_open (slice_get x.session.slots slot)) fresh ∙ all_closed SLOTS slot in
-    cc
 
 open_set : (slots : List Slot) (slot : ℕ) (what : Slot) → is_open (slice_get (slice_set slots slot what) slot) ≡ true → is_open (Some what) ≡ true
 open_set [] slot what h = cc

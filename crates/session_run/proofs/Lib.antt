@@ -2,5 +2,5 @@ pub mod Growing
 pub mod Waiting
 pub mod Fitting
 pub mod Serving
-pub mod Running
+pub mod Moving
 pub mod OneLog

@@ -1,15 +1,14 @@
--- What one move of a session, and a whole session, add to the logs.
+-- What one move of a session adds to the logs.
 use Rattle.std.specs.Prelude.{ℕ, ◌≡◌, ◌<◌, Bool, true, false, List, [], ◌++◌}
 use Rattle.lower_tree.specs.Held.{stores}
 use Rattle.tree_model.specs.declared.call.TreeCall.{TreeCall}
 use Rattle.session_model.specs.declared.file.FileCall.{FileCall}
-use Rattle.session_model.specs.declared.reply.Reply.{Reply}
 use Rattle.session_model.specs.declared.entry.TreeEntry.{TreeEntry}
 use Rattle.session_model.specs.declared.entry.FileEntry.{FileEntry}
 use Rattle.session_model.specs.declared.session.Doing.TheVariants.{Ends}
 use Rattle.session_model.specs.Histories.{Histories}
-use Rattle.session_model.specs.Session.{Session, Member, Told, asked, after}
-use Rattle.session_model.specs.Runs.{AnsweredTree, AnsweredFile, Moves, Runs}
+use Rattle.session_model.specs.Session.{Member, Told, asked, after}
+use Rattle.session_model.specs.Runs.{AnsweredTree, AnsweredFile, Moves}
 use Rattle.file_model.specs.FileLog.{entries_in}
 
 -- The log of each shard has grown by its part of these entries.
@@ -54,10 +53,3 @@ pub record ToldFile (node : ℕ) (call : FileCall) (logs logs' : ℕ → List Fi
   pub answered : AnsweredFile was.session node call [] made t
   pub adds : GrowFiles logs logs' made
   pub goes : is ≡ after was t
-
--- The session runs to its end with exactly the entries by which the logs have grown, and gets these replies. The log of each shard has its part of the files' entries.
-pub record HasRun (s : Session) (tree tree' : List TreeEntry) (logs logs' : ℕ → List FileEntry) (replies : List Reply) : Type 0 where
-  pub own : Histories
-  pub adds_tree : tree' ≡ tree ++ own.tree
-  pub adds_files : (shard : ℕ) → shard < stores → logs' shard ≡ logs shard ++ entries_in shard own.file
-  pub runs : Runs s own replies

@@ -1,13 +1,13 @@
-//! A session that is run on a tree and on files, one call after another.
+//! A session that makes its calls on a tree and on files, one after another.
 #![tactic(auto)]
 
 mod file_call;
 mod item;
 mod part;
 mod rooms;
-mod run;
+mod running;
 #[cfg(test)]
 mod tests;
 
 pub use part::{FilePart, TreePart};
-pub use run::run_session;
+pub use running::RunningSession;

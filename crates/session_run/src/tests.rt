@@ -1,7 +1,8 @@
 ghost use Rattle.std.specs.Prelude.{◌≡◌, ℕ};
+ghost use Rattle.session_model.specs.Session.{IsFresh};
 ghost use Rattle.file_model.specs.FileLog.{entries_in};
 
-use crate::{FilePart, TreePart, run_session};
+use crate::{FilePart, RunningSession, TreePart};
 use lower_inode::ReadRoom;
 use lower_tree::Items;
 use session::{FileCall, FileReply, Op, Reply, Script, Session, TreeCall, TreeReply};
@@ -111,6 +112,15 @@ impl FilePart for DoneFiles {
     }
 }
 
+// Makes all moves of a session.
+fn run(alloc: Global, tree: &mut DoneTree, files: &mut DoneFiles, session: Session) -> Session
+    requires { IsFresh session }
+{
+    let mut running = RunningSession::new(session);
+    'moves: while running.make_move(alloc, tree, files) {}
+    running.into_session()
+}
+
 #[test]
 fn logs_each_call_but_one_without_memory(rt: HostRuntime) -> Result<(), Fail> {
     let alloc = rt.alloc();
@@ -126,7 +136,7 @@ fn logs_each_call_but_one_without_memory(rt: HostRuntime) -> Result<(), Fail> {
     };
     let mut files = DoneFiles { log: Chain::new() };
     let session = Session::new(alloc, 3, Script::new(ops))?;
-    let session = run_session(alloc, &mut tree, &mut files, session);
+    let session = run(alloc, &mut tree, &mut files, session);
     assert!(rt;
         matches!(
             session.replies(),
@@ -190,7 +200,7 @@ fn opens_calls_and_closes_files(rt: HostRuntime) -> Result<(), Fail> {
     };
     let mut files = DoneFiles { log: Chain::new() };
     let session = Session::new(alloc, 2, file_script(alloc)?)?;
-    let session = run_session(alloc, &mut tree, &mut files, session);
+    let session = run(alloc, &mut tree, &mut files, session);
     let replies = replies_text(alloc, session.replies())?;
     assert_eq!(rt;
         replies.as_str(),

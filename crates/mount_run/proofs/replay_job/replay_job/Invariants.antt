@@ -1,0 +1,4 @@
+use Rattle.mount_run.proofs.replay_job.replay_job.Given as goal
+
+abbrev pub ghosts-replay_with : goal.ghosts-replay_with
+ghosts-replay_with g a = record { name = a.blank.name; parts = a.blank.parts }

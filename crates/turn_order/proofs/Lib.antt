@@ -1,0 +1,4 @@
+pub mod ComingBack
+pub mod Counting
+pub mod GoingOn
+pub mod Walking

@@ -1,0 +1,4 @@
+pub mod GoesOn
+pub mod Items
+pub mod Order
+pub mod Replay
