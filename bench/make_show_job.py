@@ -87,4 +87,5 @@ def main():
     out.write(b"\nsessions 1\nscript 0\nschedule\nend\n")
 
 
-main()
+if __name__ == "__main__":
+    main()

@@ -60,21 +60,23 @@ class Bench:
         self.names = names
         self.own_memory = resting_memory(program)
 
-    def job(self, image, lines):
+    def job(self, image, *scripts, schedule=()):
+        """A job with a session for each of these lists of lines, and the items of a schedule."""
         head = (
             "ecryptfs-job 1\npassphrase 74657374\nsalt 0011223344556677\nnamesalt 0011223344556677\n"
             f"names {self.names}\nmeta header\nrandom {ZEROS}\nimage {len(image)}\n"
         ).encode()
-        script = "".join(line + "\n" for line in lines).encode()
-        return head + image + f"\nsessions 1\nscript {len(lines)}\n".encode() + script + b"schedule\nend\n"
+        texts = [f"script {len(lines)}\n" + "".join(line + "\n" for line in lines) for lines in scripts]
+        end = f"\nsessions {len(scripts)}\n" + "".join(texts) + " ".join(["schedule", *map(str, schedule)]) + "\nend\n"
+        return head + image + end.encode()
 
-    def run(self, octets, command="replay"):
-        """Processor seconds, octets written and most memory of one run."""
+    def run(self, octets, *words):
+        """Processor seconds, octets written and most memory of one run with these words, else of a `replay`."""
         with tempfile.TemporaryFile() as job_file, tempfile.TemporaryFile() as report:
             job_file.write(octets)
             job_file.seek(0)
             start = processor_seconds()
-            process = subprocess.Popen([self.program, command], stdin=job_file, stdout=report)
+            process = subprocess.Popen([self.program, *(words or ["replay"])], stdin=job_file, stdout=report)
             peak = 0
             while process.poll() is None:
                 peak = max(peak, peak_of(process))

@@ -25,8 +25,8 @@ XATTR = "SCHILY.xattr.user.ecryptfs"
 HEAD = b"ecryptfs-job 1\npassphrase 74657374\nsalt 0011223344556677\nnamesalt 0011223344556677\nnames plain\nmeta header\nrandom "
 
 
-def job(image, script=b"script 0\n"):
-    return HEAD + b"0" * 64 + b"\nimage %d\n" % len(image) + image + b"\nsessions 1\n" + script + b"schedule\nend\n"
+def job(image, scripts=b"script 0\n", sessions=1, schedule=b"schedule"):
+    return HEAD + b"0" * 64 + b"\nimage %d\n" % len(image) + image + b"\nsessions %d\n" % sessions + scripts + schedule + b"\nend\n"
 
 
 def without_random(octets):
@@ -311,6 +311,37 @@ class Pack(Tools):
             self.write("script", script)
             self.assertEqual(self.packed("tree", "--script", self.at("script")), job(b"ECRYIMG1\0\0\0\0", lines))
         self.refused(self.pack("tree", "--script", "away"), b"away: No such file or directory")
+
+    def test_each_script_is_a_session(self):
+        os.mkdir(self.at("tree"))
+        first, second = self.write("first", b"mkdir /a\nlist /\n"), self.write("second", b"stat /a")
+        sessions = ["--script", first, "--script", second, "--script", first]
+        scripts = b"script 2\nmkdir /a\nlist /\nscript 1\nstat /a\nscript 2\nmkdir /a\nlist /\n"
+        self.assertEqual(self.packed("tree", *sessions), job(b"ECRYIMG1\0\0\0\0", scripts, 3))
+        for text, line in ((b"", b"schedule"), (b" 0 1\n\n2\t0\r\n1", b"schedule 0 1 2 0 1")):
+            packed = self.packed("tree", *sessions, "--schedule", self.write("turns", text))
+            self.assertEqual(packed, job(b"ECRYIMG1\0\0\0\0", scripts, 3, line))
+        most = self.packed("tree", *["--script", second] * 16, "--schedule", self.write("turns", b"15 0 10"))
+        self.assertEqual(most, job(b"ECRYIMG1\0\0\0\0", b"script 1\nstat /a\n" * 16, 16, b"schedule 15 0 10"))
+
+    def test_a_schedule_of_one_session(self):
+        os.mkdir(self.at("tree"))
+        packed = self.packed("tree", "--schedule", self.write("turns", b"0\n" * 1_048_576))
+        self.assertEqual(packed, job(b"ECRYIMG1\0\0\0\0", schedule=b"schedule" + b" 0" * 1_048_576))
+
+    def test_sessions_and_schedules_that_are_refused(self):
+        os.mkdir(self.at("tree"))
+        script = self.write("script", b"")
+        self.refused(self.pack("tree", *["--script", script] * 17), b"there are 17 scripts, and a job has at most 16 sessions")
+        two = ["--script", script, "--script", script]
+        for text, item in ((b"0 1 2", b"item 3 is 2"), (b"0\n-1", b"item 2 is -1"), (b"00", b"item 1 is 00"), (b"1,0", b"item 1 is 1,0"), (b"\xff", b"item 1 is %ff")):
+            with self.subTest(text=text):
+                self.write("turns", text)
+                self.refused(self.pack("tree", *two, "--schedule", "turns"), b"turns: " + item + b", and the job has the sessions 0 to 1")
+        self.refused(self.pack("tree", "--schedule", "turns"), b"turns: item 1 is %ff, and the job has session 0 alone")
+        self.write("turns", b"0 " * 1_048_577)
+        self.refused(self.pack("tree", "--schedule", "turns"), b"turns: the schedule has more than 1048576 items")
+        self.refused(self.pack("tree", "--schedule", "away"), b"away: No such file or directory")
 
     def test_no_argument_takes_a_passphrase(self):
         os.mkdir(self.at("tree"))
@@ -707,7 +738,7 @@ class Trip(Tools):
         os.mkdir(self.at("tree"))
         packed = self.packed("tree", "--script", self.write("script", b"mkdir a\n"))
         ran = subprocess.run([PROGRAM, "replay"], input=packed, capture_output=True)
-        self.assertEqual((ran.returncode, ran.stdout, ran.stderr), (3, b"", b"ecryptfs: bad job\n"))
+        self.assertEqual((ran.returncode, ran.stdout, ran.stderr), (3, b"badjob %d\n" % packed.rindex(b"mkdir a\n"), b"ecryptfs: bad job\n"))
 
 
 if __name__ == "__main__":

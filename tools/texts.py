@@ -10,6 +10,8 @@ MOST_NAME = 255
 MOST_ATTRIBUTE = 65_536
 MOST_JOB = 268_435_456
 MOST_PASSPHRASE = 64
+MOST_SESSIONS = 16
+MOST_ITEMS = 1_048_576
 USUAL_SALT = b"0011223344556677"
 SCRIPT_END = b"schedule\nend\n"
 NODE = re.compile(rb"[1-9][0-9]{0,3}")
@@ -102,9 +104,10 @@ def script_head(lines):
     return b"\nsessions 1\nscript %d\n" % lines
 
 
-def job_end(script=b""):
-    """What stands behind the image, in a job of one session with the lines of this script."""
-    return script_head(script.count(b"\n")) + script + SCRIPT_END
+def job_end(scripts=(b"",), schedule=()):
+    """What stands behind the image, in a job of a session for each of these scripts, with the items of a schedule."""
+    texts = [b"script %d\n" % script.count(b"\n") + script for script in scripts]
+    return b"\nsessions %d\n" % len(scripts) + b"".join(texts) + b" ".join([b"schedule", *schedule]) + b"\nend\n"
 
 
 # ---- passphrase and salt ----
