@@ -36,7 +36,7 @@ OperationThen Behind = LineThen operation_line (λ op. Behind)
 abbrev pub SessionThen : (List ℕ → ℕ → Type 0) → List ℕ → ℕ → Type 0
 SessionThen Behind = LineThen script_line (λ count. InARow count OperationThen Behind)
 
--- Nothing has to follow.
+-- Something follows, where nothing may; the place is its first octet.
 pub record Follows (octets : List ℕ) (place : ℕ) : Type 0 where
   pub some : 0 < length octets
   pub first : place ≡ 0

@@ -16,11 +16,11 @@ use Rattle.image_model.specs.ImageText.{image}
 use Rattle.image_model.specs.ImageReading.{FieldFault, nodes_at, with_offset, reading}
 use Rattle.image_model.proofs.Image.{reading_takes, reading_again}
 use Rattle.script_model.specs.declared.op.Op.{Op}
-use Rattle.script_text.specs.OpReading.{op_in}
-use Rattle.line_reader.specs.Fields.{value_behind, is_number, any_number_in, sized_hex_in}
-use Rattle.line_reader.proofs.Readers.{IsReader, guard_some}
-use Rattle.line_reader.proofs.Words.{is_other, weaker}
-use Rattle.line_reader.proofs.NumberReader.{own, numeral_from}
+use Rattle.reading_model.specs.OpReading.{op_in}
+use Rattle.reading_model.specs.Fields.{value_behind, is_number, any_number_in, sized_hex_in}
+use Rattle.reading_model.proofs.Readers.{IsReader, guard_some}
+use Rattle.reading_model.proofs.Words.{is_other, weaker}
+use Rattle.reading_model.proofs.NumberReader.{own, numeral_from}
 use Rattle.job_model.specs.declared.limits.TheConstants.{MOST_SESSIONS, MOST_OCTETS}
 use Rattle.job_model.specs.declared.job.Job.{Job}
 use Rattle.job_model.specs.declared.job.NameCoding.{NameCoding}

@@ -18,13 +18,13 @@ use Rattle.lower_model.specs.declared.meta_place.MetaPlace.{MetaPlace}
 use Rattle.lower_model.specs.declared.meta_place.MetaPlace.TheVariants.{Header, Attribute}
 use Rattle.job_model.specs.Job.{IsPassphrase, IsSchedule}
 use Rattle.job_model.specs.JobText.{IsAny, IsWithin, coding_word, meta_place_word}
-use Rattle.line_reader.specs.Fields.{number_in, hex_in, each_in}
-use Rattle.line_reader.proofs.Readers.{IsReader, guard_some}
-use Rattle.line_reader.proofs.Words.{is_word, is_other, both, weaker}
-use Rattle.line_reader.proofs.NumberReader.{own, number_reader}
-use Rattle.line_reader.proofs.HexReader.{hex_reader, hex_digits}
-use Rattle.line_reader.proofs.NameReader.{chosen}
-use Rattle.line_reader.proofs.PathReader.{AreSome, fields_reader}
+use Rattle.reading_model.specs.Fields.{number_in, hex_in, each_in}
+use Rattle.reading_model.proofs.Readers.{IsReader, guard_some}
+use Rattle.reading_model.proofs.Words.{is_word, is_other, both, weaker}
+use Rattle.reading_model.proofs.NumberReader.{own, number_reader}
+use Rattle.reading_model.proofs.HexReader.{hex_reader, hex_digits}
+use Rattle.reading_model.proofs.NameReader.{chosen}
+use Rattle.reading_model.proofs.PathReader.{AreSome, fields_reader}
 use Rattle.std.specs.Char.{is_ascii_digit}
 use Rattle.job_text.specs.JobReading.{passphrase_if, passphrase_in, coding_in, meta_place_in, number_if, count_in, item_if, item_in, items_if, items_in}
 use Rattle.job_text.proofs.LineParts.{HasNoEnd}

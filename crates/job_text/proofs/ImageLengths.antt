@@ -1,7 +1,7 @@
 -- The line of an image's length takes any number: where the octets end before it, they are wrong from the image's first one on.
 use Rattle.std.proofs.Common.{◌≡◌, [], ◌∷◌, ◌++◌, Ok, Err, codes, refl}
-use Rattle.line_reader.specs.Lines.{cut_in}
-use Rattle.line_reader.specs.Fields.{any_number_in}
+use Rattle.reading_model.specs.Lines.{cut_in}
+use Rattle.reading_model.specs.Fields.{any_number_in}
 use Rattle.image_model.specs.ImageText.{root}
 use Rattle.image_model.specs.ImageReading.{nodes_at, counted_nodes_at, entries_at}
 use Rattle.job_text.specs.JobReading.{word_at, image_at}

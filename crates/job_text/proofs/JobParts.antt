@@ -20,16 +20,16 @@ use Rattle.script_model.specs.declared.op.Op.{Op}
 use Rattle.script_model.specs.declared.limits.TheConstants.{MOST_OPERATIONS}
 use Rattle.script_model.specs.Script.{IsOp, IsScript}
 use Rattle.script_model.specs.ScriptText.{op_line}
-use Rattle.script_text.proofs.OpReader.{op_reader, op_no_end}
+use Rattle.reading_model.proofs.OpReader.{op_reader, op_no_end}
 use Rattle.job_model.specs.declared.job.NameCoding.{NameCoding}
 use Rattle.job_model.specs.declared.job.NameCoding.TheVariants.{Plain, Tag70}
 use Rattle.lower_model.specs.declared.meta_place.MetaPlace.{MetaPlace}
 use Rattle.lower_model.specs.declared.meta_place.MetaPlace.TheVariants.{Header, Attribute}
 use Rattle.job_model.specs.Job.{IsPassphrase, IsSchedule}
 use Rattle.job_model.specs.JobText.{IsAny, IsWithin, coding_word, meta_place_word, image_text, session_text}
-use Rattle.line_reader.specs.Fields.{IsU64, any_number_in, number_in, sized_hex_in}
-use Rattle.line_reader.proofs.NumberReader.{number_reader, any_from_number, number_from_any}
-use Rattle.line_reader.proofs.HexReader.{sized_hex_reader}
+use Rattle.reading_model.specs.Fields.{IsU64, any_number_in, number_in, sized_hex_in}
+use Rattle.reading_model.proofs.NumberReader.{number_reader, any_from_number, number_from_any}
+use Rattle.reading_model.proofs.HexReader.{sized_hex_reader}
 use Rattle.job_text.specs.declared.settings.Keys.{Keys}
 use Rattle.job_text.specs.declared.settings.Making.{Making}
 use Rattle.job_text.specs.JobReading.{Part, or_wrong, word_at, field_at, times_at, passphrase_in, coding_in, meta_place_in, keys_of, keys_at, making_at, behind_end, image_or_fault, sized_image_at, image_at, count_in, op_at, script_at, scripts_at, schedule_at}

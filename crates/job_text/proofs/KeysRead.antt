@@ -1,7 +1,7 @@
 -- The reading of the keys, from the readings of its lines.
 use Rattle.std.proofs.Common.{◌≡◌, ℕ, List, Result, Ok, refl, codes}
 use Rattle.answer_model.specs.Answer.{◌>>=◌, FailsAs}
-use Rattle.line_reader.specs.Fields.{sized_hex_in}
+use Rattle.reading_model.specs.Fields.{sized_hex_in}
 use Rattle.job_text.specs.declared.fault.LineError.{LineError}
 use Rattle.job_text.specs.declared.fault.LineError.TheVariants as errors
 use Rattle.job_text.specs.JobReading.{Part, left_of, field_at, passphrase_in, keys_at, keys_of}

@@ -10,10 +10,10 @@ use Rattle.octet_model.specs.Octets.{AreOctets}
 use Rattle.octet_model.proofs.Octets.{AreOctets-rest}
 use Rattle.answer_model.specs.Answer.{◌>>=◌}
 use Rattle.answer_model.proofs.Binds.{bind_ok, ok_is}
-use Rattle.line_reader.specs.Lines.{line_in}
-use Rattle.line_reader.proofs.Readers.{IsReader, guard_some}
-use Rattle.line_reader.proofs.Words.{is_other, both}
-use Rattle.line_reader.proofs.Cutting.{cut_parts, cut_again}
+use Rattle.reading_model.specs.Lines.{line_in}
+use Rattle.reading_model.proofs.Readers.{IsReader, guard_some}
+use Rattle.reading_model.proofs.Words.{is_other, both}
+use Rattle.reading_model.proofs.Cutting.{cut_parts, cut_again}
 use Rattle.std.proofs.lemmas.Option.{same_Some}
 use Rattle.job_text.specs.JobReading.{Part, or_wrong, behind, word_at, whole_at, field_at, times_at}
 

@@ -6,9 +6,9 @@ use Rattle.std.proofs.lemmas.Bool.{and_parts, eqb-true, ltb-true}
 use Rattle.hex.specs.Hex.{decode_pairs}
 use Rattle.octet_model.specs.Octets.{AreOctets}
 use Rattle.image_model.specs.ImageReading.{nodes_at, counted_nodes_at, entries_at, entry_at, level_at, kind_at, name_at, attribute_at, body_at, file_octets_at}
-use Rattle.line_reader.specs.Lines.{cut_in}
-use Rattle.line_reader.specs.Fields.{any_number_in, number_in, hex_in, sized_hex_in, octets_in, each_in, path_in}
-use Rattle.script_text.specs.OpReading.{op_in}
+use Rattle.reading_model.specs.Lines.{cut_in}
+use Rattle.reading_model.specs.Fields.{any_number_in, number_in, hex_in, sized_hex_in, octets_in, each_in, path_in}
+use Rattle.reading_model.specs.OpReading.{op_in}
 use Rattle.job_model.specs.declared.job.Job.{Job}
 use Rattle.job_model.specs.BadPlace.{IsBadPlace}
 use Rattle.job_text.specs.JobReading.{word_at, whole_at, times_at, keys_at, making_at, image_at, op_at, script_at, scripts_at, end_at, work_at, job_at}

@@ -5,7 +5,7 @@ use Rattle.std.proofs.lemmas.List.{length-append}
 use Rattle.answer_model.specs.Answer.{◌>>=◌}
 use Rattle.job_model.specs.JobText.{LineKind}
 use Rattle.job_model.specs.BadPlace.{BeginsWithNo, LineThen, BadLine, GoodLine, InARow}
-use Rattle.line_reader.specs.Lines.{line_in}
+use Rattle.reading_model.specs.Lines.{line_in}
 use Rattle.job_text.specs.JobReading.{Part, or_wrong, behind, word_at, whole_at, field_at, times_at}
 use Rattle.job_text.proofs.LineParts.{IsSlice, IsSlice-rest, IsPart, read_line}
 

@@ -8,15 +8,15 @@ use Rattle.image_model.specs.declared.fault.ImageFault.{ImageFault}
 use Rattle.image_model.specs.ImageReading.{reading}
 use Rattle.script_model.specs.declared.op.Op.{Op}
 use Rattle.script_model.specs.declared.limits.TheConstants.{MOST_OPERATIONS}
-use Rattle.script_text.specs.OpReading.{op_in}
+use Rattle.reading_model.specs.OpReading.{op_in}
 use Rattle.job_model.specs.declared.limits.TheConstants.{LONGEST_PASSPHRASE, MOST_SESSIONS, MOST_ITEMS}
 use Rattle.job_model.specs.declared.job.Job.{Job}
 use Rattle.job_model.specs.declared.job.NameCoding.{NameCoding}
 use Rattle.job_model.specs.declared.job.NameCoding.TheVariants.{Plain, Tag70}
 use Rattle.lower_model.specs.declared.meta_place.MetaPlace.{MetaPlace}
 use Rattle.lower_model.specs.declared.meta_place.MetaPlace.TheVariants.{Header, Attribute}
-use Rattle.line_reader.specs.Lines.{line_in}
-use Rattle.line_reader.specs.Fields.{any_number_in, number_in, hex_in, sized_hex_in, each_in}
+use Rattle.reading_model.specs.Lines.{line_in}
+use Rattle.reading_model.specs.Fields.{any_number_in, number_in, hex_in, sized_hex_in, each_in}
 use Rattle.job_text.specs.declared.fault.JobError.{JobError}
 use Rattle.job_text.specs.declared.fault.JobError.TheVariants.{Bad, Memory}
 use Rattle.job_text.specs.declared.fault.LineError.{LineError}

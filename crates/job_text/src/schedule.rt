@@ -1,6 +1,6 @@
 ghost use Rattle.std.specs.Prelude.{◌≡◌, ◌==◌, IfOk};
 ghost use Rattle.std.specs.List.{slice_split};
-ghost use Rattle.line_reader.specs.Fields.{each_in};
+ghost use Rattle.reading_model.specs.Fields.{each_in};
 ghost use Rattle.job_text.specs.JobReading.{Gives, item_in, items_in, schedule_at};
 
 use crate::fault::LineError;

@@ -1,6 +1,6 @@
 ghost use Rattle.std.specs.Prelude.{◌≡◌, codes, IfOk};
 ghost use Rattle.job_text.specs.JobReading.{Gives, field_at, passphrase_in, coding_in, meta_place_in, keys_at, making_at};
-ghost use Rattle.line_reader.specs.Fields.{sized_hex_in};
+ghost use Rattle.reading_model.specs.Fields.{sized_hex_in};
 
 use crate::fault::LineError;
 use crate::line::word_line;

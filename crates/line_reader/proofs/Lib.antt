@@ -1,10 +1,1 @@
-pub mod Readers
-pub mod Words
-pub mod NumberReader
-pub mod HexReader
-pub mod Searching
-pub mod Cutting
-pub mod NameReader
-pub mod FieldsInARow
-pub mod PathReader
-pub mod PlainPaths
+mod Searching

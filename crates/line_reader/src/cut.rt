@@ -1,7 +1,7 @@
 ghost use Rattle.std.specs.Prelude.{◌≡◌, ◌+◌, ◌==◌, length, IfSome};
 ghost use Rattle.std.specs.List.{position};
 ghost use Rattle.std.specs.Option.{option_map};
-ghost use Rattle.line_reader.specs.Lines.{cut_in, line_in};
+ghost use Rattle.reading_model.specs.Lines.{cut_in, line_in};
 
 use memchr::memchr;
 
@@ -12,7 +12,7 @@ fn index_of(octet: u8, text: &[u8]) -> Option<usize>
 }
 
 /// What stands before the first such octet of a text, and what stands behind it.
-#[tactic(auto, unfolding(crate::specs::Lines::cut_in))]
+#[tactic(auto, unfolding(reading_model::specs::Lines::cut_in))]
 pub fn cut_at(octet: u8, text: &[u8]) -> Option<(&[u8], &[u8])>
     ensures cut { option_map (λ x. (x.0.now, x.1.now)) result ≡ cut_in octet text.now }
     ensures shorter { IfSome result (λ x. length x.0.now + length x.1.now + 1 ≡ length text.now) }

@@ -2,7 +2,7 @@ ghost use Rattle.std.specs.Prelude.{◌≡◌, IfOk};
 ghost use Rattle.std.specs.List.{list_all};
 ghost use Rattle.octet_model.specs.Octets.{AreOctets, HasOctets};
 ghost use Rattle.text_model.specs.Line.{hex};
-ghost use Rattle.line_reader.specs.Fields.{Reads, is_no_capital, hex_in, sized_hex_in};
+ghost use Rattle.reading_model.specs.Fields.{Reads, is_no_capital, hex_in, sized_hex_in};
 
 use hex::{FromHex, FromHexError};
 use lower_model::Items;
@@ -15,7 +15,7 @@ fn has_no_capital(text: &[u8]) -> bool
     text.iter().all(|c| !(b'A' <= *c && *c <= b'Z'))
 }
 
-#[tactic(auto, using(crate::proofs::HexReader::hex_in_refused))]
+#[tactic(auto, using(reading_model::proofs::HexReader::hex_in_refused))]
 fn octets_of(alloc: Global, text: &[u8]) -> Result<Option<Items<u8>>, AllocError>
     ensures { IfOk result (λ found. found ≡ hex_in text.now) }
 {

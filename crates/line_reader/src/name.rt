@@ -1,7 +1,7 @@
 ghost use Rattle.std.specs.Prelude.{◌≡◌, ◌<◌, [], ◌∷◌, length, IfOk, IfSome};
 ghost use Rattle.std.specs.Option.{option_map};
 ghost use Rattle.text_model.specs.Line.{name};
-ghost use Rattle.line_reader.specs.Fields.{Reads, IsName, IsFirstOctet, escaped_in, octets_in, name_in};
+ghost use Rattle.reading_model.specs.Fields.{Reads, IsName, IsFirstOctet, escaped_in, octets_in, name_in};
 
 use crate::read_hex_array;
 use std::alloc::{AllocError, Global};

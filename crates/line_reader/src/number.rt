@@ -3,7 +3,7 @@ ghost use Rattle.std.specs.List.{list_all};
 ghost use Rattle.std.specs.Char.{is_ascii_digit};
 ghost use Rattle.text_model.specs.Line.{number};
 ghost use Rattle.std.specs.Option.{option_map};
-ghost use Rattle.line_reader.specs.Fields.{Reads, IsU64, is_number as number_test, any_number_in, number_in};
+ghost use Rattle.reading_model.specs.Fields.{Reads, IsU64, is_number as number_test, any_number_in, number_in};
 
 use std::str;
 

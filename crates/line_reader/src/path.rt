@@ -2,7 +2,7 @@ ghost use Rattle.std.specs.Prelude.{◌≡◌, ◌==◌, IfOk};
 ghost use Rattle.std.specs.List.{slice_split};
 ghost use Rattle.text_model.specs.Line.{path};
 ghost use Rattle.tree_model.specs.Path.{IsPath};
-ghost use Rattle.line_reader.specs.Fields.{Reads, name_in, each_in, path_in};
+ghost use Rattle.reading_model.specs.Fields.{Reads, name_in, each_in, path_in};
 
 use crate::cut_at;
 use crate::name::name_of;
@@ -32,7 +32,7 @@ fn names_of(alloc: Global, text: &[u8]) -> Result<Option<Path>, AllocError>
     Ok(Some(path))
 }
 
-#[tactic(auto, unfolding(crate::specs::Fields::path_in))]
+#[tactic(auto, unfolding(reading_model::specs::Fields::path_in))]
 fn path_of(alloc: Global, text: &[u8]) -> Result<Option<Path>, AllocError>
     ensures { IfOk result (λ found. found ≡ path_in text.now) }
 {

@@ -1,4 +1,4 @@
-ghost use Rattle.line_reader.specs.Fields.{Reads};
+ghost use Rattle.reading_model.specs.Fields.{Reads};
 ghost use Rattle.text_model.specs.Line.{number};
 ghost use Rattle.make_model.specs.MakeJobs.{IsMakeNumber};
 

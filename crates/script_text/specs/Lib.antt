@@ -1,1 +1,1 @@
-pub mod OpReading
+pub mod OpAnswer

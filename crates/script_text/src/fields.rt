@@ -1,6 +1,6 @@
 ghost use Rattle.std.specs.Prelude.{◌≡◌, ◌∷◌, IfOk};
 ghost use Rattle.std.specs.Option.{option_copied};
-ghost use Rattle.script_text.specs.OpReading.{fields_in, fields_behind, only_field as only_field_test, path_alone, path_pair};
+ghost use Rattle.reading_model.specs.OpReading.{fields_in, fields_behind, only_field as only_field_test, path_alone, path_pair};
 
 use line_reader::{cut_at, read_path};
 use std::alloc::{AllocError, Global};

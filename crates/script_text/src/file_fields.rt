@@ -1,6 +1,6 @@
 ghost use Rattle.std.specs.Prelude.{◌≡◌, IfOk};
 ghost use Rattle.std.specs.Option.{option_copied, option_map};
-ghost use Rattle.script_text.specs.OpReading.{fields_behind, slot_in, offset_in, is_transfer as transfer_test, transfer_in, written_in, slot_alone, slot_path, slot_size, offset_length, slot_offset_length, offset_octets, slot_offset_octets};
+ghost use Rattle.reading_model.specs.OpReading.{fields_behind, slot_in, offset_in, is_transfer as transfer_test, transfer_in, written_in, slot_alone, slot_path, slot_size, offset_length, slot_offset_length, offset_octets, slot_offset_octets};
 
 use crate::fields::{first_field, only_field, read_alone};
 use line_reader::{read_hex, read_number};

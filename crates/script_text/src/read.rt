@@ -1,7 +1,8 @@
 ghost use Rattle.std.specs.Prelude.{◌≡◌, IfOk, Err};
 ghost use Rattle.std.specs.Option.{option_copied};
 ghost use Rattle.script_model.specs.declared.op.Op.{Op as OpValue};
-ghost use Rattle.script_text.specs.OpReading.{fields_behind, number_words, file_words, op_words, op_behind as op_behind_test, op_in, IsOpText, ReadsOp};
+ghost use Rattle.reading_model.specs.OpReading.{fields_behind, number_words, file_words, op_words, op_behind as op_behind_test, op_in, IsOpText};
+ghost use Rattle.script_text.specs.OpAnswer.{ReadsOp};
 
 use crate::fields::{first_field, read_alone, read_pair};
 use crate::file_fields::{

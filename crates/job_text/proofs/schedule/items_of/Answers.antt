@@ -1,8 +1,8 @@
 use Rattle.std.proofs.Common.{sym}
 use Rattle.std.specs.List.{slice_split}
-use Rattle.line_reader.specs.Fields.{each_in}
-use Rattle.line_reader.proofs.Cutting.{is_at}
-use Rattle.line_reader.proofs.FieldsInARow.{field_goes_on, field_stops, field_ends, last_stops}
+use Rattle.reading_model.specs.Fields.{each_in}
+use Rattle.reading_model.proofs.Cutting.{is_at}
+use Rattle.reading_model.proofs.FieldsInARow.{field_goes_on, field_stops, field_ends, last_stops}
 use Rattle.job_text.specs.JobReading.{item_in}
 use Rattle.job_text.proofs.schedule.items_of.Goals as goal
 

@@ -1,8 +1,8 @@
 use Rattle.std.proofs.Common.{◌≡◌, length}
 use Rattle.std.specs.List.{slice_split}
-use Rattle.line_reader.specs.Fields.{each_in}
-use Rattle.line_reader.proofs.Cutting.{is_at}
-use Rattle.line_reader.proofs.FieldsInARow.{with_front}
+use Rattle.reading_model.specs.Fields.{each_in}
+use Rattle.reading_model.proofs.Cutting.{is_at}
+use Rattle.reading_model.proofs.FieldsInARow.{with_front}
 use Rattle.job_text.specs.JobReading.{item_in}
 use Rattle.job_text.proofs.schedule.items_of.Given as goal
 

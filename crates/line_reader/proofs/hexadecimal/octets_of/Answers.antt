@@ -1,7 +1,7 @@
 use Rattle.std.proofs.Common.{◌≡◌, true, false, sym}
 use Rattle.std.specs.List.{list_all}
-use Rattle.line_reader.specs.Fields.{is_no_capital}
-use Rattle.line_reader.proofs.HexReader.{hex_in_none, hex_in_value}
+use Rattle.reading_model.specs.Fields.{is_no_capital}
+use Rattle.reading_model.proofs.HexReader.{hex_in_none, hex_in_value}
 use Rattle.line_reader.proofs.hexadecimal.octets_of.Goals as goal
 
 pub returns-then-not-has_no_capital : goal.returns-then-not-has_no_capital

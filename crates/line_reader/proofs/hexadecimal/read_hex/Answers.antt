@@ -1,6 +1,6 @@
 use Rattle.std.proofs.lemmas.Result.{IfOk-weaker}
-use Rattle.line_reader.proofs.Readers.{reads}
-use Rattle.line_reader.proofs.HexReader.{hex_reader}
+use Rattle.reading_model.proofs.Readers.{reads}
+use Rattle.reading_model.proofs.HexReader.{hex_reader}
 use Rattle.line_reader.proofs.hexadecimal.read_hex.Goals as goal
 
 pub returns-clause-reads : goal.returns-clause-reads

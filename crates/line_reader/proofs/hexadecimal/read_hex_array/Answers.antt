@@ -1,5 +1,5 @@
-use Rattle.line_reader.proofs.Readers.{reads}
-use Rattle.line_reader.proofs.HexReader.{sized_hex_reader}
+use Rattle.reading_model.proofs.Readers.{reads}
+use Rattle.reading_model.proofs.HexReader.{sized_hex_reader}
 use Rattle.line_reader.proofs.hexadecimal.read_hex_array.Goals as goal
 
 pub returns-clause-reads : goal.returns-clause-reads

@@ -1,5 +1,5 @@
 use Rattle.std.proofs.Common.{sym, ◌∙◌}
-use Rattle.line_reader.proofs.NameReader.{plain_text, other_text}
+use Rattle.reading_model.proofs.NameReader.{plain_text, other_text}
 use Rattle.line_reader.proofs.name.first_octet.Goals as goal
 
 pub returns-then-is_plain-clause-octet : goal.returns-then-is_plain-clause-octet

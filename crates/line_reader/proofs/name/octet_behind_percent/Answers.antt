@@ -1,6 +1,6 @@
 use Rattle.std.proofs.Common.{sym, ap, ◌∙◌}
-use Rattle.line_reader.specs.Fields.{escaped_in}
-use Rattle.line_reader.proofs.NameReader.{escaped_first, wrong_digits, few_digits}
+use Rattle.reading_model.specs.Fields.{escaped_in}
+use Rattle.reading_model.proofs.NameReader.{escaped_first, wrong_digits, few_digits}
 use Rattle.line_reader.proofs.name.octet_behind_percent.Goals as goal
 
 pub returns-then-text-lt2-clause-octet : goal.returns-then-text-lt2-clause-octet

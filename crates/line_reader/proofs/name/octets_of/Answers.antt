@@ -1,8 +1,8 @@
 use Rattle.std.proofs.Common.{sym, ◌∙◌}
 use Rattle.std.proofs.lemmas.Bool.{eqb-true}
-use Rattle.line_reader.specs.Fields.{octets_in}
-use Rattle.line_reader.proofs.Words.{is_some}
-use Rattle.line_reader.proofs.FieldsInARow.{octet_goes_on, octet_stops, octets_done}
+use Rattle.reading_model.specs.Fields.{octets_in}
+use Rattle.reading_model.proofs.Words.{is_some}
+use Rattle.reading_model.proofs.FieldsInARow.{octet_goes_on, octet_stops, octets_done}
 use Rattle.line_reader.proofs.name.octets_of.Goals as goal
 
 pub first_octet-requires : goal.first_octet-requires

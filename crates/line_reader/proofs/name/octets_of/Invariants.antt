@@ -1,6 +1,6 @@
 use Rattle.std.proofs.Common.{◌≡◌, ◌++◌, length}
 use Rattle.std.specs.Option.{option_map}
-use Rattle.line_reader.specs.Fields.{octets_in}
+use Rattle.reading_model.specs.Fields.{octets_in}
 use Rattle.line_reader.proofs.name.octets_of.Given as goal
 
 abbrev pub invariant-loop-rest : goal.invariant-loop-rest

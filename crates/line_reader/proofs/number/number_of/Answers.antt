@@ -1,5 +1,5 @@
 use Rattle.std.proofs.Common.{sym, ◌∙◌}
-use Rattle.line_reader.proofs.NumberReader.{no_number, numeral_text, parsed}
+use Rattle.reading_model.proofs.NumberReader.{no_number, numeral_text, parsed}
 use Rattle.line_reader.proofs.number.number_of.Goals as goal
 
 pub returns-then-not-is_number : goal.returns-then-not-is_number

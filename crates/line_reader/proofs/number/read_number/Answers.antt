@@ -1,5 +1,5 @@
-use Rattle.line_reader.proofs.Readers.{reads}
-use Rattle.line_reader.proofs.NumberReader.{number_reader}
+use Rattle.reading_model.proofs.Readers.{reads}
+use Rattle.reading_model.proofs.NumberReader.{number_reader}
 use Rattle.line_reader.proofs.number.read_number.Goals as goal
 
 pub returns-clause-reads : goal.returns-clause-reads

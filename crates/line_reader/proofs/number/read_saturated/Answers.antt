@@ -1,6 +1,6 @@
 use Rattle.std.proofs.Common.{ℕ, ◌-◌, ◌^◌, min, Some, sym, ap, ◌∙◌}
 use Rattle.std.specs.Option.{option_map}
-use Rattle.line_reader.proofs.NumberReader.{no_number_of_any_size, numeral_text, saturates}
+use Rattle.reading_model.proofs.NumberReader.{no_number_of_any_size, numeral_text, saturates}
 use Rattle.line_reader.proofs.number.read_saturated.Goals as goal
 
 pub returns-then-not-is_number : goal.returns-then-not-is_number

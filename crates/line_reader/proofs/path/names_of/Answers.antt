@@ -1,8 +1,8 @@
 use Rattle.std.proofs.Common.{sym, ◌∙◌}
 use Rattle.std.specs.List.{slice_split}
-use Rattle.line_reader.specs.Fields.{name_in, each_in}
-use Rattle.line_reader.proofs.Cutting.{is_at}
-use Rattle.line_reader.proofs.FieldsInARow.{field_goes_on, field_stops, field_ends, last_stops}
+use Rattle.reading_model.specs.Fields.{name_in, each_in}
+use Rattle.reading_model.proofs.Cutting.{is_at}
+use Rattle.reading_model.proofs.FieldsInARow.{field_goes_on, field_stops, field_ends, last_stops}
 use Rattle.line_reader.proofs.path.names_of.Goals as goal
 
 pub returns-in_default-2 : goal.returns-in_default-2

@@ -1,8 +1,8 @@
 use Rattle.std.proofs.Common.{◌≡◌, [], length}
 use Rattle.std.specs.List.{slice_split}
-use Rattle.line_reader.specs.Fields.{name_in, each_in}
-use Rattle.line_reader.proofs.Cutting.{is_at}
-use Rattle.line_reader.proofs.FieldsInARow.{with_front}
+use Rattle.reading_model.specs.Fields.{name_in, each_in}
+use Rattle.reading_model.proofs.Cutting.{is_at}
+use Rattle.reading_model.proofs.FieldsInARow.{with_front}
 use Rattle.line_reader.proofs.path.names_of.Given as goal
 
 abbrev pub invariant-parts : goal.invariant-parts

@@ -1,6 +1,6 @@
 use Rattle.std.proofs.Common.{◌≡◌, get_or, sym, ◌∙◌}
 use Rattle.std.proofs.lemmas.Result.{IfOk-weaker}
-use Rattle.line_reader.proofs.PlainPaths.{plain_path}
+use Rattle.reading_model.proofs.PlainPaths.{plain_path}
 use Rattle.line_reader.proofs.path.path_of.Goals as goal
 
 pub returns-then-are_plain : goal.returns-then-are_plain

@@ -1,5 +1,5 @@
 use Rattle.std.proofs.Common.{sym}
-use Rattle.line_reader.proofs.Cutting.{split_more, split_last}
+use Rattle.reading_model.proofs.Cutting.{split_more, split_last}
 use Rattle.script_text.proofs.fields.first_field.Goals as goal
 
 pub returns-in-Some : goal.returns-in-Some

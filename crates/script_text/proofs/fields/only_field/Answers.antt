@@ -1,7 +1,7 @@
 use Rattle.std.proofs.Common.{List, ℕ, Option, sym, ap, ◌∙◌}
 use Rattle.std.specs.Option.{option_copied}
-use Rattle.script_text.specs.OpReading.{fields_behind, only_field}
-use Rattle.script_text.proofs.FieldReaders.{not_alone}
+use Rattle.reading_model.specs.OpReading.{fields_behind, only_field}
+use Rattle.reading_model.proofs.FieldReaders.{not_alone}
 use Rattle.script_text.proofs.fields.only_field.Goals as goal
 
 pub returns-in_default-Some : goal.returns-in_default-Some

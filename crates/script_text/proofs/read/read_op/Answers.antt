@@ -1,7 +1,7 @@
 use Rattle.std.proofs.Common.{◌≡◌, Some, None}
 use Rattle.std.specs.Option.{option_copied}
-use Rattle.script_text.specs.OpReading.{fields_behind, op_in}
-use Rattle.script_text.proofs.OpReader.{is_op_text, no_op_text, read_of}
+use Rattle.reading_model.specs.OpReading.{fields_behind, op_in}
+use Rattle.reading_model.proofs.OpReader.{is_op_text, no_op_text, read_of}
 use Rattle.script_text.proofs.read.read_op.Goals as goal
 
 pub returns-in-Ok-Some-clause-value : goal.returns-in-Ok-Some-clause-value

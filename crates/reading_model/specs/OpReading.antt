@@ -1,16 +1,14 @@
 -- Reading a line of a script: its word, and the fields behind it.
-use Rattle.std.specs.Prelude.{ℕ, ◌≡◌, List, [], ◌∷◌, length, codes, Option, Some, None, Result, Ok, Err, Bool, nat_lt, nat_le, ◌==◌, ◌&&◌, if◌then◌else◌}
+use Rattle.std.specs.Prelude.{ℕ, ◌≡◌, List, [], ◌∷◌, length, codes, Option, Some, None, Bool, nat_lt, nat_le, ◌==◌, ◌&&◌, if◌then◌else◌}
 use Rattle.std.specs.List.{slice_split}
 use Rattle.std.specs.Option.{option_map}
 use Rattle.std.specs.Str.{bytes_eq}
-use Rattle.line_reader.specs.Fields.{number_in, hex_in, path_in, ◌>>=◌}
+use Rattle.reading_model.specs.Fields.{number_in, hex_in, path_in, ◌>>=◌}
 use Rattle.script_model.specs.declared.limits.TheConstants.{SLOTS, OFFSET_LIMIT, LONGEST_TRANSFER}
 use Rattle.script_model.specs.declared.op.Op.{Op}
 use Rattle.script_model.specs.declared.op.Op.TheVariants as ops
 use Rattle.script_model.specs.Script.{IsOp}
 use Rattle.script_model.specs.ScriptText.{op_text}
-use Rattle.script_text.specs.declared.read.OpError.{OpError}
-use Rattle.script_text.specs.declared.read.OpError.TheVariants.{Bad, Memory}
 
 -- A text is the line of an operation.
 pub record IsOpText (op : Op) (text : List ℕ) : Type 0 where
@@ -138,9 +136,3 @@ op_of (word ∷ fields) = op_behind op_words word fields
 
 unfoldable pub op_in : List ℕ → Option Op
 op_in text = op_of (fields_in text)
-
--- What is answered of a line is what is read, unless memory ran out.
-abbrev pub ReadsOp : Result Op OpError → Option Op → Type 0
-ReadsOp (Ok op) read = read ≡ Some op
-ReadsOp (Err Bad) read = read ≡ None
-ReadsOp (Err Memory) read = Unit {0}

@@ -10,12 +10,12 @@ use Rattle.std.proofs.lemmas.Option.{none-some, same_Some}
 use Rattle.tree_model.specs.Path.{IsPath}
 use Rattle.lower_model.specs.Name.{is_name}
 use Rattle.text_model.specs.Line.{is_plain, name, slash_name, path}
-use Rattle.line_reader.specs.Fields.{IsName, each_in, name_in, path_in, ◌>>=◌}
-use Rattle.line_reader.proofs.Readers.{IsReader, bind_some, unless_some}
-use Rattle.line_reader.proofs.Words.{is_word, is_other, is_absent, weaker}
-use Rattle.line_reader.proofs.Cutting.{is_at}
+use Rattle.reading_model.specs.Fields.{IsName, each_in, name_in, path_in, ◌>>=◌}
+use Rattle.reading_model.proofs.Readers.{IsReader, bind_some, unless_some}
+use Rattle.reading_model.proofs.Words.{is_word, is_other, is_absent, weaker}
+use Rattle.reading_model.proofs.Cutting.{is_at}
 use Rattle.lower_model.proofs.NameOctets.{AreOctets-name}
-use Rattle.line_reader.proofs.NameReader.{chosen, name_words, name_reader}
+use Rattle.reading_model.proofs.NameReader.{chosen, name_words, name_reader}
 
 -- ---- fields in a row
 

@@ -12,9 +12,9 @@ use Rattle.hex.proofs.HexLemmas.{decode_of-even, decode_of-ok, decode_of-encode_
 use Rattle.octet_model.specs.Octets.{AreOctets, HasOctets}
 use Rattle.octet_model.proofs.Octets.{octet_at, AreOctets-from_each}
 use Rattle.text_model.specs.Line.{hex}
-use Rattle.line_reader.specs.Fields.{is_hex_digit, is_no_capital, hex_in, sized_hex_in}
-use Rattle.line_reader.proofs.Readers.{IsReader, guard_some}
-use Rattle.line_reader.proofs.Words.{is_word}
+use Rattle.reading_model.specs.Fields.{is_hex_digit, is_no_capital, hex_in, sized_hex_in}
+use Rattle.reading_model.proofs.Readers.{IsReader, guard_some}
+use Rattle.reading_model.proofs.Words.{is_word}
 
 -- ---- digits
 

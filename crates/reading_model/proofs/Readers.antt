@@ -1,7 +1,7 @@
 -- What a reader and a spelling have to do with each other.
 use Rattle.std.proofs.Common.{◌≡◌, Bool, true, false, cond, ℕ, List, Option, Some, None, refl, sym, ap, ◌∙◌}
 use Rattle.std.proofs.lemmas.Option.{none-some}
-use Rattle.line_reader.specs.Fields.{Reads, ◌>>=◌}
+use Rattle.reading_model.specs.Fields.{Reads, ◌>>=◌}
 
 -- What is read is spelled so, and what is spelled so is read.
 pub record IsReader {A : Type 0} (read : List ℕ → Option A) (spell : A → List ℕ) (Fits : A → Type 0) : Type 0 where

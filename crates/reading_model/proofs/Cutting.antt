@@ -8,8 +8,8 @@ use Rattle.std.proofs.lemmas.List.Sums.{split_at_first, passes_at_first, fails_b
 use Rattle.std.proofs.lemmas.List.{take_at, drop_at, length-append}
 use Rattle.std.proofs.lemmas.Option.{none-some, same_Some}
 use Rattle.std.specs.Option.{option_map}
-use Rattle.line_reader.specs.Lines.{cut_in}
-use Rattle.line_reader.proofs.Words.{is_other}
+use Rattle.reading_model.specs.Lines.{cut_in}
+use Rattle.reading_model.proofs.Words.{is_other}
 
 -- whether this is the octet at which a text is cut
 abbrev pub is_at : ℕ → ℕ → Bool

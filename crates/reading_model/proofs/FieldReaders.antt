@@ -14,14 +14,14 @@ use Rattle.text_model.specs.Line.{number, hex, name, slash_name, path}
 use Rattle.tree_model.specs.Path.{IsPath}
 use Rattle.script_model.specs.declared.limits.TheConstants.{SLOTS, OFFSET_LIMIT, LONGEST_TRANSFER}
 use Rattle.script_model.specs.Script.{IsSlot, IsOffset, IsTransfer, AreWritten}
-use Rattle.line_reader.specs.Fields.{number_in, hex_in, path_in}
-use Rattle.line_reader.proofs.Readers.{IsReader, bind_some, guard_some}
-use Rattle.line_reader.proofs.Words.{is_word, is_other, both, weaker}
-use Rattle.line_reader.proofs.NumberReader.{own, number_reader}
-use Rattle.line_reader.proofs.HexReader.{hex_reader, hex_digits}
-use Rattle.line_reader.proofs.NameReader.{name_words}
-use Rattle.line_reader.proofs.PathReader.{path_reader}
-use Rattle.script_text.specs.OpReading.{number_where, slot_in, offset_in, is_transfer, transfer_in, written_in, fields_in, fields_behind, only_field, alone, before, path_alone, path_pair, slot_alone, slot_path, slot_size, offset_length, slot_offset_length, offset_octets, slot_offset_octets}
+use Rattle.reading_model.specs.Fields.{number_in, hex_in, path_in}
+use Rattle.reading_model.proofs.Readers.{IsReader, bind_some, guard_some}
+use Rattle.reading_model.proofs.Words.{is_word, is_other, both, weaker}
+use Rattle.reading_model.proofs.NumberReader.{own, number_reader}
+use Rattle.reading_model.proofs.HexReader.{hex_reader, hex_digits}
+use Rattle.reading_model.proofs.NameReader.{name_words}
+use Rattle.reading_model.proofs.PathReader.{path_reader}
+use Rattle.reading_model.specs.OpReading.{number_where, slot_in, offset_in, is_transfer, transfer_in, written_in, fields_in, fields_behind, only_field, alone, before, path_alone, path_pair, slot_alone, slot_path, slot_size, offset_length, slot_offset_length, offset_octets, slot_offset_octets}
 
 -- ---- what stands in a field
 

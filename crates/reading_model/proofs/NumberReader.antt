@@ -15,8 +15,8 @@ use Rattle.std.proofs.lemmas.Str.{IsUtf8-from_ascii}
 use Rattle.std.proofs.lemmas.Fmt.{IsAscii-from_digits}
 use Rattle.std.proofs.lemmas.Str.Parse.{IsNumeralModel, numerals_by_fold, parse_digits}
 use Rattle.text_model.specs.Line.{number}
-use Rattle.line_reader.specs.Fields.{IsU64, value_behind, is_number, any_number_in, number_in}
-use Rattle.line_reader.proofs.Readers.{IsReader}
+use Rattle.reading_model.specs.Fields.{IsU64, value_behind, is_number, any_number_in, number_in}
+use Rattle.reading_model.proofs.Readers.{IsReader}
 
 abbrev pub AreDigits : List ℕ → Type 0
 AreDigits text = list_all is_ascii_digit text ≡ true

@@ -10,10 +10,10 @@ use Rattle.octet_model.specs.Octets.{AreOctets}
 use Rattle.lower_model.specs.Name.{is_name}
 use Rattle.lower_model.proofs.NameOctets.{AreOctets-name}
 use Rattle.text_model.specs.Line.{hex, is_plain, name, name_octet}
-use Rattle.line_reader.specs.Fields.{IsName, sized_hex_in, escaped_in, put, octets_in, name_in, ◌>>=◌}
-use Rattle.line_reader.proofs.Readers.{IsReader, bind_some, guard_some, unless_some}
-use Rattle.line_reader.proofs.Words.{is_word, both}
-use Rattle.line_reader.proofs.HexReader.{sized_hex_reader, hex_digits}
+use Rattle.reading_model.specs.Fields.{IsName, sized_hex_in, escaped_in, put, octets_in, name_in, ◌>>=◌}
+use Rattle.reading_model.proofs.Readers.{IsReader, bind_some, guard_some, unless_some}
+use Rattle.reading_model.proofs.Words.{is_word, both}
+use Rattle.reading_model.proofs.HexReader.{sized_hex_reader, hex_digits}
 
 -- which way a test went
 pub chosen : {A : Type 0} (test : Bool) (x y z : A) → cond test x y ≡ z → ((test ≡ true) × (x ≡ z)) ⊎ ((test ≡ false) × (y ≡ z))

@@ -3,9 +3,9 @@ use Rattle.std.proofs.Common.{◌≡◌, ℕ, List, [], ◌∷◌, ◌++◌, len
 use Rattle.std.specs.Option.{option_map}
 use Rattle.std.specs.List.{slice_split}
 use Rattle.std.proofs.lemmas.List.{append-nil, nil_from_length}
-use Rattle.line_reader.specs.Lines.{cut_in}
-use Rattle.line_reader.specs.Fields.{put, octets_in, each_in, ◌>>=◌}
-use Rattle.line_reader.proofs.Cutting.{is_at, split_more, split_last}
+use Rattle.reading_model.specs.Lines.{cut_in}
+use Rattle.reading_model.specs.Fields.{put, octets_in, each_in, ◌>>=◌}
+use Rattle.reading_model.proofs.Cutting.{is_at, split_more, split_last}
 
 -- what was read before, and what is still read
 abbrev pub with_front : {A : Type 0} → List A → Option (List A) → Option (List A)

@@ -9,8 +9,8 @@ use Rattle.lower_model.specs.Name.{is_name}
 use Rattle.text_model.specs.Line.{is_plain, is_plain_in_path}
 use Rattle.tree_model.specs.Path.{KeepsNames, is_slash, parts_behind}
 use Rattle.tree_model.proofs.PathLemmas.{tested_keeps, keeps_tested}
-use Rattle.line_reader.specs.Fields.{put, octets_in, name_in, each_in, path_in, ◌>>=◌}
-use Rattle.line_reader.proofs.NameReader.{plain_first}
+use Rattle.reading_model.specs.Fields.{put, octets_in, name_in, each_in, path_in, ◌>>=◌}
+use Rattle.reading_model.proofs.NameReader.{plain_first}
 
 -- octets that stand for themselves
 plain_octets : (text : List ℕ) → list_all is_plain text ≡ true → octets_in text ≡ Some text

@@ -11,12 +11,12 @@ use Rattle.script_model.specs.declared.op.Op.{Op}
 use Rattle.script_model.specs.declared.op.Op.TheVariants as ops
 use Rattle.script_model.specs.Script.{IsOp}
 use Rattle.script_model.specs.ScriptText.{op_fields, op_text}
-use Rattle.line_reader.proofs.Readers.{IsReader}
-use Rattle.line_reader.proofs.Words.{is_other, both, weaker}
-use Rattle.line_reader.proofs.NameReader.{chosen}
-use Rattle.line_reader.proofs.PathReader.{AreWithout, split_join}
-use Rattle.script_text.specs.OpReading.{IsOpText, fields_in, OpWord, op_word, renames, number_words, file_words, op_words, op_behind, op_of, op_in}
-use Rattle.script_text.proofs.FieldReaders.{is_inside, AreInside, IsRow, path_row, pair_row, slot_row, slot_path_row, slot_size_row, slot_offset_length_row, slot_offset_octets_row}
+use Rattle.reading_model.proofs.Readers.{IsReader}
+use Rattle.reading_model.proofs.Words.{is_other, both, weaker}
+use Rattle.reading_model.proofs.NameReader.{chosen}
+use Rattle.reading_model.proofs.PathReader.{AreWithout, split_join}
+use Rattle.reading_model.specs.OpReading.{IsOpText, fields_in, OpWord, op_word, renames, number_words, file_words, op_words, op_behind, op_of, op_in}
+use Rattle.reading_model.proofs.FieldReaders.{is_inside, AreInside, IsRow, path_row, pair_row, slot_row, slot_path_row, slot_size_row, slot_offset_length_row, slot_offset_octets_row}
 
 -- ---- what is read is spelled so
 

@@ -1,2 +1,0 @@
-mod FieldReaders
-pub mod OpReader
