@@ -1,11 +1,11 @@
 -- The tree of one file, `a` at the root, and what may be made of it.
-use Rattle.std.proofs.Common.{◌≡◌, ℕ, zero, suc, Bool, true, false, cond, List, [], ◌∷◌, Some, None, refl, sym, ap, subst, ◌∙◌, arith}
+use Rattle.std.proofs.Common.{◌≡◌, ℕ, zero, suc, Bool, true, false, cond, List, [], ◌∷◌, Some, None, refl, sym, ap, arith}
 use Rattle.lower_model.specs.declared.kind.Kind.TheVariants as kinds
 use Rattle.tree_model.specs.declared.place.Place.{Place}
 use Rattle.tree_model.specs.declared.place.Place.TheVariants.{Dir, File}
 use Rattle.tree_model.specs.Names.{is_named}
 use Rattle.names_model.specs.declared.entry.Linked.{Linked}
-use Rattle.names_model.specs.Store.{Store, linked_at}
+use Rattle.names_model.specs.Store.{linked_at}
 use Rattle.names_model.specs.StoreCalls.{CanCreate, CanRemove, CanRename, IsAtOrBelow}
 use Rattle.names_model.specs.StoreCalls.IsAtOrBelow.{at, below}
 use Rattle.lower_mem.specs.Names.{store_in}
@@ -60,9 +60,3 @@ can_rename_it = record {
   not_inside = λ inside. (let one = below_it inside in absurd (omega arith));
   replaces = tt;
 }
-
--- what may be made of it may still be made behind a call that failed
-pub behind_failure : (P : Store → Type 0) (old new behind : List Place) → old ≡ one_file → ((k : ℕ) → store_in new k ≡ store_in old k) → behind ≡ new → P (store_in one_file) → P (store_in behind)
-behind_failure P old new behind is same stays h =
-    let names : store_in one_file ≡ store_in behind = λ i k. sym (ap (λ (places : List Place). store_in places k) stays ∙ same k ∙ ap (λ (places : List Place). store_in places k) is) i in
-    subst P names h
