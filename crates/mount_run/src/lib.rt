@@ -1,4 +1,4 @@
-//! A whole run of the program: a job in, a report or a show text out.
+//! A whole run of the program: a job in, a report or a show text out; or two jobs made, and the text that sums up their reports.
 #![tactic(auto)]
 
 mod answer;

@@ -1,7 +1,7 @@
 ghost use Rattle.std.specs.Prelude.{◌≡◌};
 ghost use Rattle.mount_run.specs.Status.{status_word};
 
-/// The job was done, and its output is written.
+/// The command was done, and its output is written.
 pub const OK: u8 = 0;
 
 /// Memory ran out before the first octet of output was written.
