@@ -1,5 +1,9 @@
-use crate::run::{EMPTY_IMAGE, FAULTLESS, Failing, failing_run, job, maker, run, run_over};
-use mount_run::{BAD_JOB, READ_FAULT, USAGE, WRITE_FAULT, status_name};
+use crate::run::{
+    EMPTY_IMAGE, FAULTLESS, Failing, assert_front, assert_run, job, maker, run, run_over,
+};
+use mount_run::{BAD_JOB, READ_FAULT, USAGE, WRITE_FAULT};
+use std::alloc::Global;
+use std::process::Abort;
 use std::test::Fail;
 
 #[test]
@@ -12,9 +16,7 @@ fn a_read_that_fails_in_mid_stream(rt: HostRuntime) -> Result<(), Fail> {
             reads: &[call],
             ..FAULTLESS
         };
-        let (status, written, _) = failing_run(alloc, "replay", octets, failing)?;
-        assert_eq!(rt; status, READ_FAULT, "read {call}");
-        assert!(rt; written.is_empty());
+        assert_run(&rt, alloc, "replay", octets, failing, READ_FAULT, b"")?;
     }
     Ok(())
 }
@@ -24,16 +26,26 @@ fn a_write_that_fails_leaves_a_front(rt: HostRuntime) -> Result<(), Fail> {
     let alloc = rt.alloc();
     let lines = ["list /"; 300];
     let (_, whole) = run(alloc, "replay", job(alloc, EMPTY_IMAGE, &lines)?)?;
-    for (call, len) in [(1, 0), (2, 4096), (3, 8192)] {
+    for (write, len) in [(1, 0), (2, 4096), (3, 8192)] {
         let octets = job(alloc, EMPTY_IMAGE, &lines)?;
-        let failing = Failing {
-            writes: &[call],
-            ..FAULTLESS
-        };
-        let (status, written, _) = failing_run(alloc, "replay", octets, failing)?;
-        assert_eq!(rt; status, WRITE_FAULT);
-        assert_eq!(rt; written.len(), len);
-        assert!(rt; whole.starts_with(&written));
+        assert_front(&rt, alloc, octets, write, &whole, len)?;
+    }
+    Ok(())
+}
+
+/// Octets that are no job are to be answered with this text.
+fn assert_bad_job(rt: &impl Abort, alloc: Global, octets: &[u8], wanted: &str) -> Result<(), Fail> {
+    for word in ["replay", "show"] {
+        let octets = octets.to_vec(alloc)?;
+        assert_run(
+            rt,
+            alloc,
+            word,
+            octets,
+            FAULTLESS,
+            BAD_JOB,
+            wanted.as_bytes(),
+        )?;
     }
     Ok(())
 }
@@ -42,20 +54,10 @@ fn a_write_that_fails_leaves_a_front(rt: HostRuntime) -> Result<(), Fail> {
 #[test]
 fn octets_that_are_no_job(rt: HostRuntime) -> Result<(), Fail> {
     let alloc = rt.alloc();
-    let table: [(&[u8], &str); 4] = [
-        (b"", "badjob 0\n"),
-        (b"ecryptfs-job 2\n", "badjob 0\n"),
-        (b"ecryptfs-job 1\n", "badjob 15\n"),
-        (b"ecryptfs-job 1\npassphrase \n", "badjob 15\n"),
-    ];
-    for (octets, wanted) in table {
-        for word in ["replay", "show"] {
-            let (status, written) = run(alloc, word, octets.to_vec(alloc)?)?;
-            assert_eq!(rt; status, BAD_JOB);
-            assert_eq!(rt; written.as_slice(), wanted.as_bytes());
-        }
-    }
-    Ok(())
+    assert_bad_job(&rt, alloc, b"", "badjob 0\n")?;
+    assert_bad_job(&rt, alloc, b"ecryptfs-job 2\n", "badjob 0\n")?;
+    assert_bad_job(&rt, alloc, b"ecryptfs-job 1\n", "badjob 15\n")?;
+    assert_bad_job(&rt, alloc, b"ecryptfs-job 1\npassphrase \n", "badjob 15\n")
 }
 
 #[test]
@@ -65,15 +67,29 @@ fn a_write_fails_behind_octets_that_are_no_job(rt: HostRuntime) -> Result<(), Fa
         writes: &[1],
         ..FAULTLESS
     };
-    let (status, written, _) = failing_run(alloc, "replay", Vec::new(alloc), failing)?;
-    assert_eq!(rt; status, WRITE_FAULT);
+    assert_run(
+        &rt,
+        alloc,
+        "replay",
+        Vec::new(alloc),
+        failing,
+        WRITE_FAULT,
+        b"",
+    )
+}
+
+/// These words are to be refused, whatever is read.
+fn assert_usage(rt: &impl Abort, alloc: Global, words: &[&str]) -> Result<(), Fail> {
+    let mut lower = maker(alloc, FAULTLESS)?;
+    let octets = job(alloc, EMPTY_IMAGE, &[])?;
+    let (status, written) = run_over(alloc, &mut lower, words, octets, FAULTLESS)?;
+    assert_eq!(rt; status, USAGE);
     assert!(rt; written.is_empty());
     Ok(())
 }
 
 #[test]
 fn words_that_are_no_command(rt: HostRuntime) -> Result<(), Fail> {
-    let alloc = rt.alloc();
     let table: [&[&str]; 20] = [
         &[],
         &[""],
@@ -97,29 +113,7 @@ fn words_that_are_no_command(rt: HostRuntime) -> Result<(), Fail> {
         &["make", "1", "1"],
     ];
     for words in table {
-        let mut lower = maker(alloc, FAULTLESS)?;
-        let octets = job(alloc, EMPTY_IMAGE, &[])?;
-        let (status, written) = run_over(alloc, &mut lower, words, octets, FAULTLESS)?;
-        assert_eq!(rt; status, USAGE);
-        assert!(rt; written.is_empty());
+        assert_usage(&rt, rt.alloc(), words)?;
     }
     Ok(())
-}
-
-#[test]
-fn the_names_of_the_statuses(rt: HostRuntime) {
-    let names = [
-        "ok",
-        "memory",
-        "usage",
-        "bad job",
-        "read fault",
-        "write fault",
-        "lower fault",
-        "too long",
-        "unknown",
-    ];
-    for (status, name) in (0u8..9).zip(names) {
-        assert_eq!(rt; status_name(status), name);
-    }
 }

@@ -308,24 +308,27 @@ fn a_change_that_fails_changes_nothing(rt: HostRuntime) -> Result<(), Fail> {
     Ok(())
 }
 
+/// The lower names behind an opening at which the call with this number fails, as the one fault.
+fn names_behind_fault(alloc: Global, number: u64) -> Result<MemNames, Fail> {
+    match opening(alloc, &[number])? {
+        Err(
+            NamesFault::Lower {
+                lower,
+                before: 0,
+                after: 1,
+                ..
+            },
+        ) => Ok(lower),
+        _ => Err("no fault, or another".into()),
+    }
+}
+
 #[test]
 fn each_call_of_the_opening_may_fail(rt: HostRuntime) -> Result<(), Fail> {
     let alloc = rt.alloc();
     for number in 1..=OPENING {
-        match opening(alloc, &[number])? {
-            Err(
-                NamesFault::Lower {
-                    lower,
-                    before: 0,
-                    after: 1,
-                    ..
-                },
-            ) => {
-                let mut store = lower;
-                check_store(alloc, &mut store, &FIRST)?;
-            }
-            _ => return Err("no fault, or another".into()),
-        }
+        let mut store = names_behind_fault(alloc, number)?;
+        check_store(alloc, &mut store, &FIRST)?;
     }
     Ok(())
 }

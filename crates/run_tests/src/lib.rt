@@ -1,5 +1,6 @@
-//! Whole runs, tested by the public calls of `mount_run`: printed texts, faults one at a time, and the largest tree; and the tree over
-//! lower names in memory and its listing, under a form in which two lower names may stand for one upper name.
+//! Whole runs, tested by the public calls of `mount_run`: printed texts, sessions that take turns, makes, faults one at a time, and the
+//! largest tree; and the tree over lower names in memory and its listing, under a form in which two lower names may stand for one upper
+//! name.
 #![tactic(auto)]
 
 #[cfg(test)]

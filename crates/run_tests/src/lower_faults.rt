@@ -1,5 +1,6 @@
 use crate::report::{Line, histories, job_of, report};
 use crate::run::{EMPTY_IMAGE, FAULTLESS, Failing, failing_run, job, maker, run_over};
+use lower_mem::MemMaker;
 use lower_tree::LowerMaker;
 use mount_run::{LOWER_FAULT, OK, READ_FAULT, WRITE_FAULT};
 use std::alloc::{AllocError, Global};
@@ -209,6 +210,20 @@ fn the_unite_fails(rt: HostRuntime) -> Result<(), Fail> {
     assert_outcome(&rt, alloc, "replay", octets, failing, wanted)
 }
 
+/// The replay of a list over a maker whose calls may have failed before is to end in a fault of a lower part, and to write this.
+fn assert_fault(
+    rt: &impl Abort,
+    alloc: Global,
+    lower: &mut MemMaker,
+    wanted: &[u8],
+) -> Result<(), Fail> {
+    let octets = job(alloc, EMPTY_IMAGE, &["list /"])?;
+    let (status, written) = run_over(alloc, lower, &["replay"], octets, FAULTLESS)?;
+    assert_eq!(rt; status, LOWER_FAULT);
+    assert_eq!(rt; written.as_slice(), wanted);
+    Ok(())
+}
+
 // The unite of the first run, the split of the second, and the unite of the third.
 #[test]
 fn one_maker_fails_in_three_runs(rt: HostRuntime) -> Result<(), Fail> {
@@ -219,18 +234,9 @@ fn one_maker_fails_in_three_runs(rt: HostRuntime) -> Result<(), Fail> {
     };
     let mut lower = maker(alloc, failing)?;
     let lines = [("list /", "names")];
-    let wanted = [
-        stuck_report(alloc, &lines, 0, 1)?,
-        Vec::from_slice(alloc, b"ecryptfs-report 1\nstuck 9 1 2\n")?,
-        stuck_report(alloc, &lines, 2, 3)?,
-    ];
-    for text in wanted {
-        let octets = job_of(alloc, EMPTY_IMAGE, &lines)?;
-        let (status, written) = run_over(alloc, &mut lower, &["replay"], octets, failing)?;
-        assert_eq!(rt; status, LOWER_FAULT);
-        assert_eq!(rt; written, text);
-    }
-    Ok(())
+    assert_fault(&rt, alloc, &mut lower, &stuck_report(alloc, &lines, 0, 1)?)?;
+    assert_fault(&rt, alloc, &mut lower, b"ecryptfs-report 1\nstuck 9 1 2\n")?;
+    assert_fault(&rt, alloc, &mut lower, &stuck_report(alloc, &lines, 2, 3)?)
 }
 
 #[test]

@@ -1,5 +1,5 @@
 use crate::report::assert_replies;
-use crate::run::{EMPTY_IMAGE, job, run};
+use crate::run::{EMPTY_IMAGE, FAULTLESS, assert_run, job, run};
 use mount_run::{BAD_JOB, OK};
 use std::alloc::{AllocError, Global};
 use std::test::Fail;
@@ -12,25 +12,20 @@ const SMALL_IMAGE: &[u8] = b"ECRYIMG1\x00\x00\x00\x04\x00\x01\x00\x01d\
 #[test]
 fn the_report_of_no_operations(rt: HostRuntime) -> Result<(), Fail> {
     let alloc = rt.alloc();
-    let (status, report) = run(alloc, "replay", job(alloc, EMPTY_IMAGE, &[])?)?;
-    assert_eq!(rt; status, OK);
+    let octets = job(alloc, EMPTY_IMAGE, &[])?;
     let wanted =
         b"ecryptfs-report 1\nsession 0 0\ntree 0\nimage 12\nECRYIMG1\x00\x00\x00\x00\nend\n";
-    assert_eq!(rt; report.as_slice(), wanted.as_slice());
-    Ok(())
+    assert_run(&rt, alloc, "replay", octets, FAULTLESS, OK, wanted)
 }
 
 #[test]
 fn the_report_of_a_new_directory(rt: HostRuntime) -> Result<(), Fail> {
     let alloc = rt.alloc();
     let octets = job(alloc, EMPTY_IMAGE, &["mkdir /a", "list /"])?;
-    let (status, report) = run(alloc, "replay", octets)?;
-    assert_eq!(rt; status, OK);
     let wanted = b"ecryptfs-report 1\nsession 0 2\nok\nnames d:a\ntree 2\n\
         0 0 0 0 mkdir /a = ok\n0 1 0 0 list / = names d:a\n\
         image 17\nECRYIMG1\x00\x00\x00\x01\x00\x01\x00\x01a\nend\n";
-    assert_eq!(rt; report.as_slice(), wanted.as_slice());
-    Ok(())
+    assert_run(&rt, alloc, "replay", octets, FAULTLESS, OK, wanted)
 }
 
 // The image has a file `f` with an attribute and a body, which is carried along.
@@ -50,8 +45,7 @@ fn the_report_of_each_reply(rt: HostRuntime) -> Result<(), Fail> {
         "mkdir /",
         "list /a/b%20%ff",
     ];
-    let (status, report) = run(alloc, "replay", job(alloc, image, &lines)?)?;
-    assert_eq!(rt; status, OK);
+    let octets = job(alloc, image, &lines)?;
     let wanted = b"ecryptfs-report 1\nsession 0 9\n\
         ok\nok\nerr exists\nnames d:b%20%ff\nnames d:a f:f\nerr notfound\nerr notdir\nerr isroot\nnames\ntree 9\n\
         0 0 0 0 mkdir /a = ok\n0 1 0 0 mkdir /a/b%20%ff = ok\n0 2 0 0 mkdir /a = err exists\n\
@@ -59,8 +53,7 @@ fn the_report_of_each_reply(rt: HostRuntime) -> Result<(), Fail> {
         0 6 0 0 mkdir /f/x = err notdir\n0 7 0 0 mkdir / = err isroot\n0 8 0 0 list /a/b%20%ff = names\n\
         image 44\nECRYIMG1\x00\x00\x00\x03\x00\x01\x00\x01a\x00\x02\x00\x03b \xff\
         \x00\x01\x01\x01f\x01\x00\x00\x00\x02at\x00\x00\x00\x04body\nend\n";
-    assert_eq!(rt; report.as_slice(), wanted.as_slice());
-    Ok(())
+    assert_run(&rt, alloc, "replay", octets, FAULTLESS, OK, wanted)
 }
 
 // With the first test that fails where several do.
@@ -178,16 +171,29 @@ fn entries_are_removed(rt: HostRuntime) -> Result<(), Fail> {
     assert_replies(&rt, rt.alloc(), SMALL_IMAGE, &lines, behind)
 }
 
+/// The line that makes a directory whose name has so many letters `n`.
+fn mkdir_of_length(alloc: Global, len: usize) -> Result<String, AllocError> {
+    let mut line = String::from_str(alloc, "mkdir /")?;
+    for _ in 0..len {
+        line.push('n')?;
+    }
+    Ok(line)
+}
+
 // No line has a name of more than 255 octets.
 #[test]
 fn the_longest_name(rt: HostRuntime) -> Result<(), Fail> {
     let alloc = rt.alloc();
-    let name = String::from_utf8(Vec::from_elem(alloc, b'n', 255)?)?;
+    let line = mkdir_of_length(alloc, 255)?;
     let mut behind = Vec::from_slice(alloc, b"ECRYIMG1\x00\x00\x00\x01\x00\x01\x00\xff")?;
-    behind.extend_from_slice(name.as_bytes())?;
-    let line = format!(in alloc; "mkdir /{name}")?;
-    assert_replies(&rt, alloc, EMPTY_IMAGE, &[(&line, "ok")], &behind)?;
-    let line = format!(in alloc; "mkdir /{name}n")?;
+    behind.resize(behind.len() + 255, b'n')?;
+    assert_replies(&rt, alloc, EMPTY_IMAGE, &[(&line, "ok")], &behind)
+}
+
+#[test]
+fn a_name_that_is_too_long(rt: HostRuntime) -> Result<(), Fail> {
+    let alloc = rt.alloc();
+    let line = mkdir_of_length(alloc, 256)?;
     let (status, _) = run(alloc, "replay", job(alloc, EMPTY_IMAGE, &[&line])?)?;
     assert_eq!(rt; status, BAD_JOB);
     Ok(())
@@ -209,36 +215,53 @@ fn deep_path(alloc: Global, levels: usize) -> Result<String, AllocError> {
     Ok(path)
 }
 
-// Each directory in the one before; no more can be made. The lowest is moved to the root.
+/// The front of an image of as many directories as there are nodes: so many, each in the one before.
+fn deep_image(alloc: Global, levels: u16) -> Result<Vec<u8>, AllocError> {
+    let mut image = Vec::from_slice(alloc, b"ECRYIMG1\x00\x00\x0f\xff")?;
+    for level in 1..=levels {
+        put_directory(&mut image, level, "d")?;
+    }
+    Ok(image)
+}
+
+// Each directory in the one before; no more can be made.
 #[test]
 fn as_many_levels_as_there_are_nodes(rt: HostRuntime) -> Result<(), Fail> {
     let alloc = rt.alloc();
-    let mut image = Vec::from_slice(alloc, b"ECRYIMG1\x00\x00\x0f\xff")?;
-    let mut behind = image.clone()?;
-    for level in 1..4095 {
-        put_directory(&mut image, level, "d")?;
-        put_directory(&mut behind, level, "d")?;
-    }
-    put_directory(&mut image, 4095, "d")?;
-    put_directory(&mut behind, 1, "e")?;
+    let image = deep_image(alloc, 4095)?;
     let lowest = deep_path(alloc, 4095)?;
     let mkdir = format!(in alloc; "mkdir {lowest}/e")?;
     let stat = format!(in alloc; "stat {lowest}")?;
     let list = format!(in alloc; "list {lowest}")?;
     let inside = format!(in alloc; "rename /d {lowest}/e")?;
-    let outside = format!(in alloc; "rename {lowest} /e")?;
     let lines = [
         ("mkdir /e", "err nonodes"),
         (mkdir.as_str(), "err nonodes"),
         (stat.as_str(), "ok d 4095"),
         (list.as_str(), "names"),
         (inside.as_str(), "err inside"),
-        (outside.as_str(), "ok"),
-        ("list /", "names d:d d:e"),
     ];
-    assert_replies(&rt, alloc, &image, &lines, &behind)?;
+    assert_replies(&rt, alloc, &image, &lines, &image)
+}
+
+#[test]
+fn the_lowest_level_is_moved_to_the_root(rt: HostRuntime) -> Result<(), Fail> {
+    let alloc = rt.alloc();
+    let mut behind = deep_image(alloc, 4094)?;
+    put_directory(&mut behind, 1, "e")?;
+    let lowest = deep_path(alloc, 4095)?;
+    let outside = format!(in alloc; "rename {lowest} /e")?;
+    let lines = [(outside.as_str(), "ok"), ("list /", "names d:d d:e")];
+    assert_replies(&rt, alloc, &deep_image(alloc, 4095)?, &lines, &behind)
+}
+
+#[test]
+fn the_lowest_level_is_shown(rt: HostRuntime) -> Result<(), Fail> {
+    let alloc = rt.alloc();
+    let image = deep_image(alloc, 4095)?;
     let (status, text) = run(alloc, "show", job(alloc, &image, &[])?)?;
     assert_eq!(rt; status, OK);
+    let lowest = deep_path(alloc, 4095)?;
     let last = format!(in alloc; "d 4095 {lowest}\nend\n")?;
     assert!(rt; text.ends_with(last.as_bytes()));
     Ok(())

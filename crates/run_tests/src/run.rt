@@ -1,6 +1,8 @@
 use lower_mem::{MemFails, MemMaker};
-use mount_run::{MemSink, MemSource, run_alone};
+use mount_run::{MemSink, MemSource, WRITE_FAULT, run_alone};
 use std::alloc::{AllocError, Global};
+use std::process::Abort;
+use std::test::Fail;
 
 pub const EMPTY_IMAGE: &[u8] = b"ECRYIMG1\x00\x00\x00\x00";
 
@@ -137,4 +139,40 @@ pub fn failing_run(
 pub fn run(alloc: Global, word: &str, octets: Vec<u8>) -> Result<(u8, Vec<u8>), AllocError> {
     let (status, written, _) = failing_run(alloc, word, octets, FAULTLESS)?;
     Ok((status, written))
+}
+
+/// A run with this one word is to answer and to write this.
+pub fn assert_run(
+    rt: &impl Abort,
+    alloc: Global,
+    word: &str,
+    octets: Vec<u8>,
+    failing: Failing,
+    status: u8,
+    written: &[u8],
+) -> Result<(), Fail> {
+    let (answered, text, _) = failing_run(alloc, word, octets, failing)?;
+    assert_eq!(rt; answered, status);
+    assert_eq!(rt; text.as_slice(), written);
+    Ok(())
+}
+
+/// Where this write fails, a replay is to leave so many octets of the front of its whole report.
+pub fn assert_front(
+    rt: &impl Abort,
+    alloc: Global,
+    octets: Vec<u8>,
+    write: u64,
+    whole: &[u8],
+    len: usize,
+) -> Result<(), Fail> {
+    let failing = Failing {
+        writes: &[write],
+        ..FAULTLESS
+    };
+    let (status, written, _) = failing_run(alloc, "replay", octets, failing)?;
+    assert_eq!(rt; status, WRITE_FAULT);
+    assert_eq!(rt; written.len(), len);
+    assert!(rt; whole.starts_with(&written));
+    Ok(())
 }

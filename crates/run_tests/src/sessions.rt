@@ -1,7 +1,8 @@
 use crate::report::{assert_shown, image_in};
-use crate::run::{FAULTLESS, Failing, failing_run, job_of_sessions, run};
-use mount_run::{OK, WRITE_FAULT};
+use crate::run::{FAULTLESS, assert_front, assert_run, job_of_sessions, run};
+use mount_run::OK;
 use std::alloc::{AllocError, Global};
+use std::process::Abort;
 use std::test::Fail;
 
 /// A file `f` without a body: the node 1.
@@ -14,33 +15,45 @@ fn two_writers(alloc: Global, schedule: &[u32]) -> Result<Vec<u8>, AllocError> {
     job_of_sessions(alloc, "header", IMAGE, &[&first, &second], schedule)
 }
 
+/// The report of the two writers up to its image, with the log of the earlier write and of the later one.
+fn front(alloc: Global, earlier: &str, later: &str) -> Result<String, AllocError> {
+    format!(in alloc;
+        "ecryptfs-report 1\n\
+        session 0 3\nok 1\nok\nok\nsession 1 3\nok 1\nok\nok\n\
+        tree 2\n0 0 0 0 resolve /f = ok 1\n1 0 0 0 resolve /f = ok 1\n\
+        file 1 6\n0 0 0 0 attach 0 = ok\n1 0 0 0 attach 0 = ok\n{earlier}{later}\
+        0 2 0 0 detach 0 = ok\n1 2 0 0 detach 0 = ok\nimage 12310\n"
+    )
+}
+
+/// The replay of the two writers in this order is to tell this first, and to leave a file that is shown so.
+fn assert_two_writers(
+    rt: &impl Abort,
+    alloc: Global,
+    schedule: &[u32],
+    front: &str,
+    shown: &[u8],
+) -> Result<(), Fail> {
+    let (status, report) = run(alloc, "replay", two_writers(alloc, schedule)?)?;
+    assert_eq!(rt; status, OK);
+    assert!(rt; report.starts_with(front.as_bytes()));
+    assert!(rt; report.ends_with(b"\nend\n"));
+    assert_eq!(rt; image_in(&report).len(), 12_310);
+    assert_shown(rt, alloc, "header", &report, shown)
+}
+
 // The later write stands, whichever session makes it.
 #[test]
 fn two_sessions_write_the_same_octet(rt: HostRuntime) -> Result<(), Fail> {
     let alloc = rt.alloc();
     let first = "0 1 0 0 write 0 0 41 = ok\n";
     let second = "1 1 0 0 write 0 0 42 = ok\n";
-    let table = [
-        ([0, 0, 1, 1, 0, 1], first, second, "42"),
-        ([0, 0, 1, 1, 1, 0], second, first, "41"),
-    ];
-    for (schedule, earlier, later, content) in table {
-        let (status, report) = run(alloc, "replay", two_writers(alloc, &schedule)?)?;
-        let front = format!(in alloc;
-            "ecryptfs-report 1\n\
-            session 0 3\nok 1\nok\nok\nsession 1 3\nok 1\nok\nok\n\
-            tree 2\n0 0 0 0 resolve /f = ok 1\n1 0 0 0 resolve /f = ok 1\n\
-            file 1 6\n0 0 0 0 attach 0 = ok\n1 0 0 0 attach 0 = ok\n{earlier}{later}\
-            0 2 0 0 detach 0 = ok\n1 2 0 0 detach 0 = ok\nimage 12310\n"
-        )?;
-        assert_eq!(rt; status, OK);
-        assert!(rt; report.starts_with(front.as_bytes()));
-        assert!(rt; report.ends_with(b"\nend\n"));
-        assert_eq!(rt; image_in(&report).len(), 12_310);
-        let shown = format!(in alloc; "ecryptfs-show 1\nf 1 /f good 1 {content}\nend\n")?;
-        assert_shown(&rt, alloc, "header", &report, shown.as_bytes())?;
-    }
-    Ok(())
+    let ordered = front(alloc, first, second)?;
+    let shown = b"ecryptfs-show 1\nf 1 /f good 1 42\nend\n";
+    assert_two_writers(&rt, alloc, &[0, 0, 1, 1, 0, 1], &ordered, shown)?;
+    let reversed = front(alloc, second, first)?;
+    let shown = b"ecryptfs-show 1\nf 1 /f good 1 41\nend\n";
+    assert_two_writers(&rt, alloc, &[0, 0, 1, 1, 1, 0], &reversed, shown)
 }
 
 // One session has the file open, and the other one removes it.
@@ -57,7 +70,6 @@ fn a_removed_file_is_read_and_written_on(rt: HostRuntime) -> Result<(), Fail> {
     let second = ["unlink /f", "list /"];
     let schedule = [0, 0, 1, 0, 1];
     let octets = job_of_sessions(alloc, "header", IMAGE, &[&first, &second], &schedule)?;
-    let (status, report) = run(alloc, "replay", octets)?;
     let wanted = b"ecryptfs-report 1\n\
         session 0 5\nok 1\nok\ndata 41\nerr notfound\nok\nsession 1 2\nok\nnames\n\
         tree 4\n0 0 0 0 resolve /f = ok 1\n1 0 0 0 unlink /f = ok\n\
@@ -65,9 +77,7 @@ fn a_removed_file_is_read_and_written_on(rt: HostRuntime) -> Result<(), Fail> {
         file 1 4\n0 0 0 0 attach 0 = ok\n0 1 0 0 write 0 0 41 = ok\n\
         0 2 0 0 read 0 0 9 = data 41\n0 4 0 0 detach 0 = ok\n\
         image 12\nECRYIMG1\x00\x00\x00\x00\nend\n";
-    assert_eq!(rt; status, OK);
-    assert_eq!(rt; report.as_slice(), wanted.as_slice());
-    Ok(())
+    assert_run(&rt, alloc, "replay", octets, FAULTLESS, OK, wanted)
 }
 
 #[test]
@@ -75,14 +85,6 @@ fn the_second_write_of_a_report_fails(rt: HostRuntime) -> Result<(), Fail> {
     let alloc = rt.alloc();
     let schedule = [0, 0, 1, 1, 0, 1];
     let (_, whole) = run(alloc, "replay", two_writers(alloc, &schedule)?)?;
-    let failing = Failing {
-        writes: &[2],
-        ..FAULTLESS
-    };
     let octets = two_writers(alloc, &schedule)?;
-    let (status, written, _) = failing_run(alloc, "replay", octets, failing)?;
-    assert_eq!(rt; status, WRITE_FAULT);
-    assert_eq!(rt; written.len(), 4096);
-    assert!(rt; whole.starts_with(&written));
-    Ok(())
+    assert_front(&rt, alloc, octets, 2, &whole, 4096)
 }
