@@ -1,7 +1,9 @@
 use crate::run::{
     EMPTY_IMAGE, FAULTLESS, Failing, assert_front, assert_run, job, maker, run, run_over,
 };
-use mount_run::{BAD_JOB, READ_FAULT, USAGE, WRITE_FAULT};
+use mount_run::{
+    BAD_JOB, LOWER_FAULT, MEMORY, OK, READ_FAULT, TOO_LONG, USAGE, WRITE_FAULT, status_name,
+};
 use std::alloc::Global;
 use std::process::Abort;
 use std::test::Fail;
@@ -116,4 +118,20 @@ fn words_that_are_no_command(rt: HostRuntime) -> Result<(), Fail> {
         assert_usage(&rt, rt.alloc(), words)?;
     }
     Ok(())
+}
+
+#[test]
+fn the_numbers_of_the_statuses(rt: HostRuntime) {
+    let numbers = [
+        OK,
+        MEMORY,
+        USAGE,
+        BAD_JOB,
+        READ_FAULT,
+        WRITE_FAULT,
+        LOWER_FAULT,
+        TOO_LONG,
+    ];
+    assert_eq!(rt; numbers, [0, 1, 2, 3, 4, 5, 6, 7]);
+    assert_eq!(rt; status_name(8), "unknown");
 }
